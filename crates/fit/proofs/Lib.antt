@@ -1,0 +1,4 @@
+mod Kept
+mod Sound
+pub mod Runs
+mod Going
