@@ -1,4 +1,6 @@
 //! The charge: a weighing whose every span costs a fixed sum more than in the weighing below.
+#![tactic(auto)]
+
 ghost use Rattle.std.specs.Prelude.{◌≡◌};
 ghost use Rattle.charge.specs.Charges.{charge_fits, charged, StillCharged};
 ghost use Rattle.weighing.specs.Did.{TakeDid, DropDid, WipeDid, WeighDid, LevelsKept};

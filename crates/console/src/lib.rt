@@ -1,4 +1,6 @@
 //! The input of a session, read line by line as commands.
+#![tactic(auto)]
+
 mod before;
 mod command;
 mod digits;

@@ -1,4 +1,5 @@
 //! The console on tables of lines and replies.
+#![tactic(auto)]
 
 #[cfg(test)]
 mod tests {

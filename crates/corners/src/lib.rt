@@ -1,4 +1,6 @@
 //! Corners as text: one corner a line, as `x y`.
+#![tactic(auto)]
+
 ghost use Rattle.std.specs.Prelude.{◌≡◌, Ok, Err};
 ghost use Rattle.refusal.specs.Rules.{Broken, NoOther};
 ghost use Rattle.corners.specs.Lines.{Writes, SomeNumber, Written, SomeCorner};

@@ -1,5 +1,7 @@
 //! Divisions of readings into spans: the order of their costs, and the table of tallies and last cuts
 //! from which the best one is read off.
+#![tactic(auto)]
+
 ghost use Rattle.division.specs.Divisions.{BestIsOne, BestIsThere};
 
 pub mod cost;

@@ -1,4 +1,6 @@
 //! What a fit takes at its edges: the greatest reading and the first too great, the last reading that it has room for and the next.
+#![tactic(auto)]
+
 use fit::fit::Fit;
 use refusal::Refusal;
 use rising::ceiling::Ceiling;

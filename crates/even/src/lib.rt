@@ -1,4 +1,6 @@
 //! The even weighing: spans should all have one length.
+#![tactic(auto)]
+
 ghost use Rattle.std.specs.Prelude.{◌≡◌, ℕ, ◌+◌, ◌-◌, ◌<◌, ◌≤◌, true, Ok, Err};
 ghost use Rattle.refusal.specs.Rules.{Broken, NoOther};
 ghost use Rattle.weighing.specs.Calls.{Span, raised};

@@ -1,4 +1,6 @@
 //! Reads the lines of a session at the bench from standard input, and prints the reply to each.
+#![tactic(auto)]
+
 use reply::Reply;
 use session::{Listener, conduct, fill};
 use std::io;

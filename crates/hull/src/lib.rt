@@ -1,4 +1,6 @@
 //! Convex hulls, and the farthest corner from each of a hull's corners.
+#![tactic(auto)]
+
 mod calls;
 pub mod corner;
 mod farthest;

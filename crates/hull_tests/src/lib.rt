@@ -1,4 +1,6 @@
 //! Tests of the hull: examples, refusals, and lists with places to spare.
+#![tactic(auto)]
+
 #[cfg(test)]
 mod tests {
     use hull::corner::Corner;

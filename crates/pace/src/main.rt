@@ -1,4 +1,6 @@
 //! What calls cost as their subjects grow: entries read or spans weighed and, with the word `time`, nanoseconds.
+#![tactic(auto)]
+
 use crate::hulls::Lens;
 use crate::searches::Square;
 use crate::settles::Lead;

@@ -1,4 +1,6 @@
 //! The pair: two weighings of the same readings as one, in which the first counts before the second.
+#![tactic(auto)]
+
 ghost use Rattle.std.specs.Prelude.{◌≡◌};
 ghost use Rattle.weighing.specs.Did.{TakeDid, DropDid, WipeDid, WeighDid, LevelsKept};
 ghost use Rattle.pair.specs.Pairs.{pair_fits, paired, StillPaired, BothTake, BothDrop, BothWipe, BothWeigh};

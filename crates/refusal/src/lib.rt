@@ -1,4 +1,6 @@
 //! Why a call is refused: one closed list for the whole bench, with the number that each refusal goes by.
+#![tactic(auto)]
+
 ghost use Rattle.std.specs.Prelude.{◌≡◌};
 ghost use Rattle.refusal.specs.Numbers.{number};
 ghost use Rattle.refusal.specs.Meanings.{meaning};

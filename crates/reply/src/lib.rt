@@ -1,4 +1,6 @@
 //! What each line is answered with, as text.
+#![tactic(auto)]
+
 ghost use Rattle.std.specs.Prelude.{Some};
 ghost use Rattle.reply.specs.Replies.{kind_text, ends_text, reply_text};
 

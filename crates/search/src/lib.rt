@@ -5,6 +5,8 @@
 //! every later row. So the leftmost least columns do not fall from row to row. `reduce` throws away
 //! columns until no more are left than rows, every second row is searched in the same way, and `scan`
 //! finds the rows between, each between the answers of its neighbours.
+#![tactic(auto)]
+
 ghost use Rattle.std.specs.Prelude.{◌≡◌};
 ghost use Rattle.search.specs.Least.{LeftmostIsThere, LeftmostIsOne};
 ghost use Rattle.search.specs.Search.{SearchDid};

@@ -1,4 +1,6 @@
 //! A session at the bench: a fit is opened, and each line after the first is a call of it, told by a reply.
+#![tactic(auto)]
+
 mod first;
 mod later;
 mod listener;

@@ -1,4 +1,5 @@
 //! Whole sessions through the library, with what they must be answered.
+#![tactic(auto)]
 
 #[cfg(test)]
 mod tests {

@@ -1,4 +1,6 @@
 //! Reads the corners of a constellation, one `x y` a line, and tells how far a carrier swings between them.
+#![tactic(auto)]
+
 use corners::read;
 use hull::corner::Corner;
 use hull::table::{Hull, MOST_CORNERS};
