@@ -1,9 +1,9 @@
 -- The places of a level's rows: row i of a level of stride t stands at place (i + 1) * t - 1 of the strip.
-use Rattle.std.proofs.Common.{◌≡◌, ℕ, ◌+◌, ◌-◌, ◌*◌, ◌/◌, ◌^◌, ◌<◌, ◌≤◌, ◌⊎◌, List, get_or, set, sym, refl, ap, ◌∙◌, subst, ⊎_elim, mul-le-mul_right, mul_assoc, mul_comm, add_mul, mul-lt-mul_of_pos_right, one-mul, arith, get_or-set_other}
+use Rattle.std.proofs.Common.{◌≡◌, ℕ, ◌+◌, ◌-◌, ◌*◌, ◌/◌, ◌^◌, ◌<◌, ◌≤◌, ◌⊎◌, List, get_or, set, sym, refl, ap, ◌∙◌, subst, ⊎_elim, mul-le-mul_right, mul_assoc, mul_comm, add-mul, mul-lt-mul_of_pos_right, one-mul, arith, get_or-set_other}
 use Rattle.std.proofs.lemmas.Bool.{cases_order}
 
 pub times_pos : (i stride : ℕ) → 0 < stride → 0 < (i + 1) * stride
-times_pos i stride pos = let a = add_mul i 1 stride in let b = one-mul stride in omega arith
+times_pos i stride pos = let a = add-mul i 1 stride in let b = one-mul stride in omega arith
 
 pub times_le : (i n stride : ℕ) → i ≤ n → i * stride ≤ n * stride
 times_le i n stride le = mul-le-mul_right {m = i} {n = n} stride le
@@ -17,7 +17,7 @@ row_in i n stride pos l =
 
 pub next_row : (i stride : ℕ) → 0 < stride → ((i + 1) * stride - 1) + stride ≡ (i + 1 + 1) * stride - 1
 next_row i stride pos =
-    let a = add_mul (i + 1) 1 stride in
+    let a = add-mul (i + 1) 1 stride in
     let b = one-mul stride in
     let c = times_pos i stride pos in
     omega arith

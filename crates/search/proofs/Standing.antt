@@ -79,6 +79,6 @@ module _ {S E : Type 0} (m : Ghosts S E) {s : S} {level : Level} {work : List â„
           let b = times_pos i level.stride stands.step in
           let c = row_in i (i + 1 + 1) level.stride stands.step (omega arith) in
           let step = stands.step in
-          let d = native.Mathlib.Nat.add_mul (i + 1) 1 level.stride in
+          let d = native.Mathlib.Nat.add-mul (i + 1) 1 level.stride in
           let e = native.Mathlib.Nat.one-mul level.stride in
           omega arith

@@ -10,7 +10,7 @@ use crate::sheet::Sheet;
 /// The entry of a place that the sheet has.
 pub(crate) fn read<S: Sheet>(sheet: &mut S, row: usize, column: usize) -> S::Entry
     requires place { HasPlace S.Sheet sheet.old row column }
-    ensures value { result ≡ at sheet.old row column }
+    ensures value { result ≡ S.at sheet.old row column }
     ensures after { Read S.Sheet 1 sheet.old sheet.new }
 {
     match sheet.entry(row, column) {
@@ -23,7 +23,7 @@ pub(crate) fn read<S: Sheet>(sheet: &mut S, row: usize, column: usize) -> S::Ent
 fn beats<S: Sheet>(sheet: &mut S, row: usize, left: usize, right: usize) -> bool
     requires old { HasPlace S.Sheet sheet.old row left }
     requires new { HasPlace S.Sheet sheet.old row right }
-    ensures value { result ≡ before (at sheet.old row right) (at sheet.old row left) }
+    ensures value { result ≡ S.before (S.at sheet.old row right) (S.at sheet.old row left) }
     ensures after { Read S.Sheet 2 sheet.old sheet.new }
 {
     let old = read(sheet, row, left);

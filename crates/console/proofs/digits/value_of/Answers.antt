@@ -4,12 +4,12 @@ use Rattle.console.proofs.Numerals.{digit_more, digits_all, value_below, value_w
 use Rattle.console.proofs.digits.value_of.Goals as goal
 
 pub loop-digit-preserved : goal.loop-digit-preserved
-loop-digit-preserved c = digit_more c.args.digits.now c.loop-digit.digit-index c.loop-digit.value _ (c.is-numeral.ensures.0 (search rules)).digits (omega arith) c.from.ensures c.loop-digit.invariant
+loop-digit-preserved c = digit_more c.args.digits.now c.loop-digit.digit-index c.loop-digit.value _ (c.is_numeral.ensures.0 (search rules)).digits (omega arith) c.from.ensures c.loop-digit.invariant
 
 pub returns : goal.returns
 returns c =
     let digits = c.args.digits.now in
-    let numeral : Numeral digits = c.is-numeral.ensures.0 (search rules) in
+    let numeral : Numeral digits = c.is_numeral.ensures.0 (search rules) in
     let is : c.loop-digit.value ≡ value digits = digits_all digits c.loop-digit.digit-index c.loop-digit.value numeral (omega arith) c.loop-digit.invariant.0 in
     let small = value_below digits numeral in
     record {

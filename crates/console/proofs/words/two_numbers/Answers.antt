@@ -11,7 +11,7 @@ pub slice-bounds-t·8-start : goal.slice-bounds-t·8-start
 slice-bounds-t·8-start c = part_fits c.up-to-first.result.now c.args.words.now c.up-to-first.ensures
 
 pub returns-in-len1-up : goal.returns-in-len1-up
-returns-in-len1-up c = (parts_split c.up-to-first.result.now c.args.words.now c.up-to-first.ensures (search rules), c.is-numeral.ensures.0 c.if-is-numeral.true, c.is-numeral-then-is-numeral.ensures.0 c.if-is-numeral-2.true)
+returns-in-len1-up c = (parts_split c.up_to-first.result.now c.args.words.now c.up_to-first.ensures (search rules), c.is_numeral.ensures.0 c.if-is_numeral.true, c.is_numeral-then-is_numeral.ensures.0 c.if-is_numeral-2.true)
 
 pub returns-in-default : goal.returns-in-default
 returns-in-default c = λ first second is one two.

@@ -46,7 +46,7 @@ returns g c =
     let step = c.requires.step in
     let twice : 0 < c.args.stride * 2 = omega arith in
     let h = halved c.args.strip.rows c.args.stride c.requires.step c.requires.below in
-    let long : length c.reduce-kept-len.new.work ≡ length c.args.work.now = omega arith in
-    let r = c.reduce-kept-len.ensures.after in
+    let long : length c.reduce_kept-len.new.work ≡ length c.args.work.now = omega arith in
+    let r = c.reduce_kept-len.ensures.after in
     let kept = made m (laws g) c.at-level.result c.at-level.ensures (stands_at m c.args.work.now (c.args.stride * 2) c.requires.fits (met.low s) (met.narrow s) c.requires.room twice) long h.one r in
     record { after = record { kept = kept.kept; same = kept.same; beyond = kept.beyond; reads = (r.reads.0, within r.reads.0 _ _ (subst (λ a. r.reads.0 ≤ 4 * many c.args.work.now a) c.at-above.ensures r.reads.1) c.requires.kept.few, r.reads.2) } }
