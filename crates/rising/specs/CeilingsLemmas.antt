@@ -1,6 +1,6 @@
 -- The ceiling's weights by running sums, and why they are lawful.
 use Rattle.std.specs.Prelude.{◌≡◌, ℕ, ◌+◌, ◌-◌, ◌*◌, ◌<◌, ◌≤◌, List, length, slice_index, slice_index_or}
-use Rattle.std.proofs.Common.{add_mul, mul_add, arith}
+use Rattle.std.proofs.Common.{add-mul, mul-add, arith}
 use Rattle.rising.specs.Rows.{Small, Rising}
 use Rattle.rising.specs.Sums.{sum_first}
 use Rattle.rising.specs.Ceilings.{ceiling_level, ceiling_weight}
@@ -17,7 +17,7 @@ ceiling_weight_local x y a b h same =
     total_agrees (λ i. slice_index y (b - 1) - slice_index y i) (λ i. slice_index x (b - 1) - slice_index x i) a (b - a) (λ i h l. let at = same i (omega arith) in cc)
 
 product_of_sums : (q e u f : ℕ) → (q + e) * u + q * (u + f) ≤ (q + e) * (u + f) + q * u
-product_of_sums q e u f = omega (arith, add_mul q e u, mul_add q u f, mul_add (q + e) u f, add_mul q e f)
+product_of_sums q e u f = omega (arith, add-mul q e u, mul-add q u f, mul-add (q + e) u f, add-mul q e f)
 
 -- the longer with the higher makes more than the longer with the lower
 rearranged : (p q u v : ℕ) → q ≤ p → u ≤ v → p * u + q * v ≤ p * v + q * u

@@ -1,6 +1,6 @@
 -- How sums over spans split, agree and are bounded.
 use Rattle.std.specs.Prelude.{◌≡◌, ℕ, zero, suc, ◌+◌, ◌-◌, ◌*◌, ◌<◌, ◌≤◌, List, slice_index, slice_index_or}
-use Rattle.std.proofs.Common.{ap, add-zero, add-suc, add_mul, zero-mul, suc-mul, add-one, arith}
+use Rattle.std.proofs.Common.{ap, add-zero, add-suc, add-mul, zero-mul, suc-mul, add-one, arith}
 use Rattle.std.proofs.Math.Nat.{sub-zero}
 use Rattle.rising.specs.Sums.{total, over_span, sum_first}
 
@@ -44,4 +44,4 @@ pub sum_of_span : (x : List ℕ) (a b : ℕ) → a ≤ b → sum_first x b ≡ s
 sum_of_span x a b h = rw (sub-zero a, sub-zero b) at (span_split (λ i. slice_index x i) 0 a b (omega arith) h)
 
 pub one_more : (k l v : ℕ) → l ≡ k + 1 → l * v ≡ k * v + v
-one_more k l v h = rw (h, add_mul k 1 v) (omega arith)
+one_more k l v h = rw (h, add-mul k 1 v) (omega arith)

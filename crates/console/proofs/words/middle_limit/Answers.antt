@@ -5,5 +5,5 @@ use Rattle.console.proofs.words.middle_limit.Goals as goal
 pub returns-in-109 : goal.returns-in-109
 returns-in-109 c = (begins_rest (codes "middle ") c.args.kind.now (search rules), c.is_numeral.ensures.0 c.if-is_numeral.true)
 
-pub returns-in-default : goal.returns-in-default
-returns-in-default c = λ digits is numeral. let behind = rest_numeral (codes "middle ") c.args.kind.now digits is numeral in search rules
+pub returns-in_default : goal.returns-in_default
+returns-in_default c = λ digits is numeral. let behind = rest_numeral (codes "middle ") c.args.kind.now digits is numeral in search rules

@@ -2,8 +2,8 @@ use Rattle.console.specs.Grammar.{Opens, for_even}
 use Rattle.console.proofs.Grammar.{opens_even, opens_once}
 use Rattle.console.proofs.words.opening_of.Goals as goal
 
-pub returns-in-Some-two-numbers : goal.returns-in-Some-two-numbers
-returns-in-Some-two-numbers c =
+pub returns-in-Some-two_numbers : goal.returns-in-Some-two_numbers
+returns-in-Some-two_numbers c =
     let line = c.args.line.now in
     let long = c.in-Some-two-numbers.length.now in
     let limit = c.in-Some-two-numbers.limit.now in

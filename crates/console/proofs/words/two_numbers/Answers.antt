@@ -13,8 +13,8 @@ slice-bounds-t·8-start c = part_fits c.up-to-first.result.now c.args.words.now 
 pub returns-in-len1-up : goal.returns-in-len1-up
 returns-in-len1-up c = (parts_split c.up_to-first.result.now c.args.words.now c.up_to-first.ensures (search rules), c.is_numeral.ensures.0 c.if-is_numeral.true, c.is_numeral-then-is_numeral.ensures.0 c.if-is_numeral-2.true)
 
-pub returns-in-default : goal.returns-in-default
-returns-in-default c = λ first second is one two.
+pub returns-in_default : goal.returns-in_default
+returns-in_default c = λ first second is one two.
     let parts = parts_of_two c.up-to-first.result.now c.args.words.now c.up-to-first.ensures first second is one in
     let long = ap length parts.1 in
     let front = subst Numeral (sym parts.0) one in

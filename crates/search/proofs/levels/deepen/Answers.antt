@@ -12,8 +12,8 @@ laws g = let met = g.met.S.Sheet in record { order = record { irreflexive = met.
 apart : (rows n k count : ℕ) → n ≤ rows → 2 ≤ n → 2 * k ≤ n → count ≤ n → 3 * (rows - n) + count ≤ 3 * (rows - k)
 apart rows n k count a b c d = omega arith
 
-pub reduce-kept-len-requires : goal.reduce-kept-len-requires
-reduce-kept-len-requires g c =
+pub reduce_kept-len-requires : goal.reduce_kept-len-requires
+reduce_kept-len-requires g c =
     let m = g.S.Sheet in
     let met = g.met.S.Sheet in
     let s = c.args.sheet.now in

@@ -35,8 +35,8 @@ bounds-answers-at g c =
     let b = next_row (2 * c.loop-p.p) c.args.level.stride stands.step in
     omega arith
 
-pub offset-bounds-answers-at : goal.offset-bounds-answers-at
-offset-bounds-answers-at g c =
+pub offset_bounds-answers-at : goal.offset_bounds-answers-at
+offset_bounds-answers-at g c =
     let stands = c.requires.stands in
     let tall = stands.tall in
     let low = stands.low in
@@ -48,8 +48,8 @@ offset-bounds-answers-at g c =
 even_row : (rows p stride most : ℕ) → 0 < stride → p < rows - rows / 2 → rows * stride ≤ most → (2 * p + 1) * stride - 1 < most
 even_row rows p stride most pos l tall = let a = row_in (2 * p) rows stride pos (omega arith) in omega arith
 
-pub overflow-add-level : goal.overflow-add-level
-overflow-add-level g c =
+pub overflow_add-level : goal.overflow_add-level
+overflow_add-level g c =
     let stands = c.requires.stands in
     let low = stands.low in
     let a = even_row c.args.level.rows c.loop-p.p c.args.level.stride c.args.level.strip.rows stands.step c.loop-p-test.true stands.tall in
@@ -61,15 +61,15 @@ bounds-answers-at-in-loop-p g c =
     let a = even_row c.args.level.rows c.loop-p.p c.args.level.stride c.args.level.strip.rows stands.step c.loop-p-test.true stands.tall in
     omega arith
 
-pub offset-bounds-answers-at-in-loop-p : goal.offset-bounds-answers-at-in-loop-p
-offset-bounds-answers-at-in-loop-p g c =
+pub offset_bounds-answers-at-in-loop-p : goal.offset_bounds-answers-at-in-loop-p
+offset_bounds-answers-at-in-loop-p g c =
     let stands = c.requires.stands in
     let low = stands.low in
     let a = even_row c.args.level.rows c.loop-p.p c.args.level.stride c.args.level.strip.rows stands.step c.loop-p-test.true stands.tall in
     search rules
 
-pub least-between-best-requires : goal.least-between-best-requires
-least-between-best-requires g c =
+pub least_between-best-requires : goal.least_between-best-requires
+least_between-best-requires g c =
     let m = g.S.Sheet in
     let room = c.requires.stands.room in
     let few = c.requires.few in

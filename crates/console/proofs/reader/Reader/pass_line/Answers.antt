@@ -4,8 +4,8 @@ use Rattle.console.specs.Lines.{line_at, place_after}
 use Rattle.console.proofs.Lines.{rest_of, rest_length, line_found, place_moved}
 use Rattle.console.proofs.reader.Reader.pass_line.Goals as goal
 
-pub returns-then-line-gt-MOST-BYTES : goal.returns-then-line-gt-MOST-BYTES
-returns-then-line-gt-MOST-BYTES c =
+pub returns-then-line-gt-MOST_BYTES : goal.returns-then-line-gt-MOST_BYTES
+returns-then-line-gt-MOST_BYTES c =
     let input = c.args.self.now.input.now in
     let place = c.args.self.now.place in
     let line : c.up-to-line.result.now ≡ line_at input place = line_found input place c.up-to-line.result.now c.up-to-line.ensures in

@@ -7,7 +7,7 @@ use Rattle.rising.specs.HeldLemmas.{held_few, held_rising, times_reading}
 use Rattle.rising.specs.CeilingsLemmas.{ceiling_by_sums}
 use Rattle.rising.proofs.ceiling.Ceiling.weight.Goals as goal
 
-by_sums : (c : goal.After-sum-first-2) → ceiling_weight (readings c.args.self.now.readings) c.args.a c.args.b + c.sum-first-2.result ≡ (c.args.b - c.args.a) * c.at-level.result + c.sum-first.result
+by_sums : (c : goal.After-sum_first-2) → ceiling_weight (readings c.args.self.now.readings) c.args.a c.args.b + c.sum_first-2.result ≡ (c.args.b - c.args.a) * c.at-level.result + c.sum_first.result
 by_sums c =
     let r = c.args.self.now.readings in
     let times = ap (λ v. (c.args.b - c.args.a) * v) c.at-level.ensures.value in

@@ -12,8 +12,8 @@ overflow-add-twice c = let few = held_few c.args.self.now.readings in omega arit
 pub overflow-add-twice-2 : goal.overflow-add-twice-2
 overflow-add-twice-2 c = let few = held_few c.args.self.now.readings in omega arith
 
-by_sums : (c : goal.After-sum-first-4) →
-    middle_weight (readings c.args.self.now.readings) c.args.a c.args.b + (c.sum-first-3.result + c.sum-first-4.result) ≡ c.sum-first.result + c.sum-first-2.result
+by_sums : (c : goal.After-sum_first-4) →
+    middle_weight (readings c.args.self.now.readings) c.args.a c.args.b + (c.sum_first-3.result + c.sum_first-4.result) ≡ c.sum-first.result + c.sum-first-2.result
 by_sums c =
     let r = c.args.self.now.readings in
     let sums = middle_by_sums (readings r) (held_rising r) c.args.a c.args.b c.requires.some c.requires.within in

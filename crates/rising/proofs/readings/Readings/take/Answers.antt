@@ -25,5 +25,5 @@ pub returns : goal.returns
 unfolding readings
 returns c =
     let r = c.args.self.now in
-    let told : rising_verdict (readings r) c.args.reading ≡ 0 = sym c.in-default.ensures.value in
+    let told : rising_verdict (readings r) c.args.reading ≡ 0 = sym c.in_default.ensures.value in
     record { answer = (told, ap (λ k. k + 1) (sym (held_length r)), push_is r c.args.reading told) }
