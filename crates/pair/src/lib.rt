@@ -4,7 +4,8 @@
 ghost use Rattle.std.specs.Prelude.{◌≡◌};
 ghost use Rattle.weighing.specs.Did.{TakeDid, DropDid, WipeDid, WeighDid, LevelsKept};
 ghost use Rattle.pair.specs.Pairs.{pair_fits, paired, StillPaired, BothTake, BothDrop, BothWipe, BothWeigh};
-ghost use Rattle.std.proofs.Common.{rules};
+ghost use Rattle.pair.specs.PairsLemmas.{held_on_both};
+ghost use Rattle.std.proofs.Common.{arith, rules};
 
 use refusal::Refusal;
 use weighing::weighing::Weighing;
@@ -68,6 +69,11 @@ impl<F: Weighing, S: Weighing> Weighing for Pair<F, S> {
     ghost known = { Prim.search rules };
 
     ghost full = { Prim.search rules };
+
+    // the sum of the laws of its sides
+    ghost quadrangle = { λ w a b c d h1 h2 h3 h4.
+        let inside = held_on_both _ _ (F.Weighing.held w.first) (S.Weighing.held w.second) d (omega arith) h4 in
+        omega (arith, F.Weighing.quadrangle w.first a b c d h1 h2 h3 inside.0, S.Weighing.quadrangle w.second a b c d h1 h2 h3 inside.1) };
 
     fn verdict(&self, reading: u32) -> Option<Refusal> {
         if !self.fits() {
