@@ -61,7 +61,7 @@ front_is r k h = sym (take-take k r.n r.places h)
 
 module _ (r : Readings) (reading : ℕ) (told : rising_verdict (readings r) reading ≡ 0) where
   pub room_left : r.n < 512
-  room_left = omega (arith, (allowed (readings r) reading told).0, held_length r)
+  room_left = omega (arith, (allowed (readings r) reading (held_few r) told).0, held_length r)
 
   pub push_is : take (r.n + 1) (slice_set r.places r.n reading) ≡ readings r ++ reading ∷ []
   unfolding readings
@@ -73,7 +73,7 @@ module _ (r : Readings) (reading : ℕ) (told : rising_verdict (readings r) read
   unfolding readings
   push_kept =
       let x = readings r in
-      let ok = allowed x reading told in
+      let ok = allowed x reading (held_few r) told in
       let long = held_length r in
       let room : length x + 1 < length r.sums = omega (arith, r.rooms, room_left) in
       let sums : Summed (x ++ reading ∷ []) (slice_set r.sums (r.n + 1) (slice_index r.sums r.n + reading)) =
@@ -83,5 +83,5 @@ module _ (r : Readings) (reading : ℕ) (told : rising_verdict (readings r) read
 
   pub sum_fits : slice_index_or r.sums r.n 0 + reading ≤ 33553920
   sum_fits =
-      let ok = allowed (readings r) reading told in
+      let ok = allowed (readings r) reading (held_few r) told in
       omega (arith, held_sum r r.n (omega arith), sums_small r r.n (omega arith), room_left)

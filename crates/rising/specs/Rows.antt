@@ -23,7 +23,7 @@ Summed x sums = (i : ℕ) → i ≤ length x → slice_index sums i ≡ sum_firs
 abbrev pub last : List ℕ → ℕ
 last x = slice_index x (length x - 1)
 
--- the verdict on a reading that is to follow x: 1 where x has 512 or more, then 2 above 65,535, then 3 below the last
+-- the verdict on a reading that is to follow x: 1 where x has 512, then 2 above 65,535, then 3 below the last
 abbrev pub rising_verdict : List ℕ → ℕ → ℕ
 rising_verdict x = next_verdict (length x) (last x)
 

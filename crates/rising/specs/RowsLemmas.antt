@@ -3,6 +3,7 @@ use Rattle.std.specs.Prelude.{◌≡◌, ℕ, ◌+◌, ◌-◌, ◌<◌, ◌≤�
 use Rattle.std.proofs.Common.{ap, sym, ◌∙◌, ⊎_elim, add-one, arith, rules}
 use Rattle.std.proofs.lemmas.List.{length-append, get_or_append_left, get_or-append_right, length-take-le, get_or-take, get_or-set_same, get_or-set_other}
 use Rattle.std.proofs.lemmas.Bool.{cases_lt}
+use Rattle.std.proofs.lemmas.Bool.Decides.{nat_tests}
 use Rattle.rising.specs.Sums.{sum_first}
 use Rattle.rising.specs.Rows.{Small, Rising, Summed, last, rising_verdict}
 use Rattle.rising.specs.SumsLemmas.{total_agrees}
@@ -10,8 +11,8 @@ use Rattle.rising.specs.SumsLemmas.{total_agrees}
 pub sums_agree : (x y : List ℕ) (k : ℕ) → ((i : ℕ) → i < k → slice_index y i ≡ slice_index x i) → sum_first y k ≡ sum_first x k
 sums_agree x y k same = total_agrees (λ i. slice_index y i) (λ i. slice_index x i) 0 k (λ i h l. same i (omega arith))
 
-pub allowed : (x : List ℕ) (r : ℕ) → rising_verdict x r ≡ 0 → (length x < 512) × (r ≤ 65535) × (last x ≤ r)
-allowed x r h = (search rules, search rules, search rules)
+pub allowed : (x : List ℕ) (r : ℕ) → length x ≤ 512 → rising_verdict x r ≡ 0 → (length x < 512) × (r ≤ 65535) × (last x ≤ r)
+allowed x r few h = (grind (arith, nat_tests), grind (arith, nat_tests), grind (arith, nat_tests))
 
 module _ (x : List ℕ) (r : ℕ) where
   pub push_length : length (x ++ r ∷ []) ≡ length x + 1

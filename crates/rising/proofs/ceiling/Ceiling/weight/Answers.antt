@@ -14,22 +14,22 @@ by_sums c =
     let sums = ceiling_by_sums (readings r) (held_rising r) c.args.a c.args.b c.requires.some c.requires.within in
     omega arith
 
-pub overflow-mul-weight : goal.overflow-mul-weight
-overflow-mul-weight c =
+pub overflow_mul-weight : goal.overflow_mul-weight
+overflow_mul-weight c =
     let r = c.args.self.now.readings in
     let few = held_few r in
     let product = times_reading r (c.args.b - c.args.a) (c.args.b - 1) _ c.at-level.ensures.value (omega arith) (omega arith) in
     omega arith
 
-pub overflow-add-weight : goal.overflow-add-weight
-overflow-add-weight c =
+pub overflow_add-weight : goal.overflow_add-weight
+overflow_add-weight c =
     let r = c.args.self.now.readings in
     let few = held_few r in
     let product = times_reading r (c.args.b - c.args.a) (c.args.b - 1) _ c.at-level.ensures.value (omega arith) (omega arith) in
     omega arith
 
-pub overflow-sub-weight-2 : goal.overflow-sub-weight-2
-overflow-sub-weight-2 c = let sums = by_sums c in omega arith
+pub overflow_sub-weight-2 : goal.overflow_sub-weight-2
+overflow_sub-weight-2 c = let sums = by_sums c in omega arith
 
 pub returns : goal.returns
 returns c = let sums = by_sums c in record { value = omega arith }

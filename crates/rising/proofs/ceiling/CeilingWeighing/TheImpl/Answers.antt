@@ -10,7 +10,7 @@ take-tells c =
     let told = push_takes ceiling_readings ceiling_weight ceiling_level ceiling_weight_local ceiling_level_local (λ _. 33553920) ceiling_count c.args.self.now c.new.self.now refl (ap (λ k. k.told) c.ensures.same) c.args.reading c.result c.ensures.answer in
     record { answer = told.0; levels = told.1 }
 
-pub drop-last-tells : goal.drop_last-tells
-drop-last-tells c =
+pub drop_last-tells : goal.drop_last-tells
+drop_last-tells c =
     let told = pop_drops ceiling_readings ceiling_weight ceiling_level ceiling_weight_local ceiling_level_local (λ _. 33553920) ceiling_count c.args.self.now c.new.self.now refl (ap (λ k. k.told) c.ensures.same) c.result c.ensures.answer in
     record { answer = told.0; levels = told.1 }

@@ -6,21 +6,21 @@ use Rattle.rising.specs.HeldLemmas.{held_few, held_rising}
 use Rattle.rising.specs.MiddlesLemmas.{middle_by_sums}
 use Rattle.rising.proofs.middle.Middle.weight.Goals as goal
 
-pub overflow-add-twice : goal.overflow-add-twice
-overflow-add-twice c = let few = held_few c.args.self.now.readings in omega arith
+pub overflow_add-twice : goal.overflow_add-twice
+overflow_add-twice c = let few = held_few c.args.self.now.readings in omega arith
 
-pub overflow-add-twice-2 : goal.overflow-add-twice-2
-overflow-add-twice-2 c = let few = held_few c.args.self.now.readings in omega arith
+pub overflow_add-twice-2 : goal.overflow_add-twice-2
+overflow_add-twice-2 c = let few = held_few c.args.self.now.readings in omega arith
 
 by_sums : (c : goal.After-sum_first-4) →
-    middle_weight (readings c.args.self.now.readings) c.args.a c.args.b + (c.sum_first-3.result + c.sum_first-4.result) ≡ c.sum-first.result + c.sum-first-2.result
+    middle_weight (readings c.args.self.now.readings) c.args.a c.args.b + (c.sum_first-3.result + c.sum_first-4.result) ≡ c.sum_first.result + c.sum_first-2.result
 by_sums c =
     let r = c.args.self.now.readings in
     let sums = middle_by_sums (readings r) (held_rising r) c.args.a c.args.b c.requires.some c.requires.within in
     omega arith
 
-pub overflow-sub-result : goal.overflow-sub-result
-overflow-sub-result c = let sums = by_sums c in omega arith
+pub overflow_sub-result : goal.overflow_sub-result
+overflow_sub-result c = let sums = by_sums c in omega arith
 
 pub returns : goal.returns
 returns c = let sums = by_sums c in record { value = omega arith }

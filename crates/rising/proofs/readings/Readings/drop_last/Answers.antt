@@ -7,11 +7,11 @@ use Rattle.rising.proofs.readings.Readings.drop_last.Goals as goal
 pub returns-then-self-eq0 : goal.returns-then-self-eq0
 returns-then-self-eq0 c = let long = held_length c.args.self.now in record { answer = (inl (λ h. omega arith, refl), refl) }
 
-pub invariant-of-self : goal.invariant-of-self
-invariant-of-self c =
+pub invariant_of-self : goal.invariant_of-self
+invariant_of-self c =
     let r = c.args.self.now in
     let kept = front_kept r (r.n - 1) (omega arith) in
-    (r.room, (r.rooms, (omega (arith, r.few), (kept.0, (kept.1, (kept.2, tt))))))
+    record { room = r.room; rooms = r.rooms; few = omega (arith, r.few); small = kept.0; rising = kept.1; summed = kept.2 }
 
 pub returns : goal.returns
 unfolding readings

@@ -2,8 +2,8 @@ use Rattle.std.proofs.Common.{◌<◌, arith, rules}
 use Rattle.rising.specs.HeldLemmas.{held_length, held_sum}
 use Rattle.rising.proofs.readings.Readings.sum_first.Goals as goal
 
-pub offset-bounds-self-k : goal.offset-bounds-self-k
-offset-bounds-self-k c = let long = held_length c.args.self.now in let low : c.args.k < 513 = omega arith in search rules
+pub offset_bounds-self-k : goal.offset_bounds-self-k
+offset_bounds-self-k c = let long = held_length c.args.self.now in let low : c.args.k < 513 = omega arith in search rules
 
 pub bounds-self-k : goal.bounds-self-k
 bounds-self-k c = let long = held_length c.args.self.now in omega arith
