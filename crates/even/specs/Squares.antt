@@ -1,6 +1,6 @@
 -- The square of a distance from one number is convex: what the even weighing's law rests on.
 use Rattle.std.specs.Prelude.{◌≡◌, ℕ, ◌+◌, ◌-◌, ◌*◌, ◌<◌, ◌≤◌}
-use Rattle.std.proofs.Common.{mul_add, add_mul, mul_comm, mul-le-mul, arith, ⊎_elim}
+use Rattle.std.proofs.Common.{mul-add, add-mul, mul_comm, mul-le-mul, arith, ⊎_elim}
 use Rattle.std.proofs.lemmas.Bool.{cases_lt}
 use Rattle.weighing.specs.Distance.{apart}
 use Rattle.even.specs.Evens.{even_weight}
@@ -9,7 +9,7 @@ abbrev squared : ℕ → ℕ → ℕ
 squared m g = apart m g * apart m g
 
 square_of_gap : (m g e : ℕ) → g ≡ m + e → e * e + 2 * (m * g) ≡ m * m + g * g
-square_of_gap m g e h = rw h (omega (arith, mul_add m m e, mul_add (m + e) m e, add_mul m e m, add_mul m e e, mul_comm e m))
+square_of_gap m g e h = rw h (omega (arith, mul-add m m e, mul-add (m + e) m e, add-mul m e m, add-mul m e e, mul_comm e m))
 
 square_of_apart : (m g : ℕ) → squared m g + 2 * (m * g) ≡ m * m + g * g
 square_of_apart m g =
@@ -21,9 +21,9 @@ square_of_apart m g =
 -- lengths p + q and q + r against p + q + r and q
 convex : (p q r g : ℕ) → squared (p + q) g + squared (q + r) g ≤ squared (p + q + r) g + squared q g
 convex p q r g =
-    let lines : (p + q) * g + (q + r) * g ≡ (p + q + r) * g + q * g = omega (arith, add_mul p q g, add_mul q r g, add_mul (p + q) r g) in
+    let lines : (p + q) * g + (q + r) * g ≡ (p + q + r) * g + q * g = omega (arith, add-mul p q g, add-mul q r g, add-mul (p + q) r g) in
     let squares : (p + q) * (p + q) + (q + r) * (q + r) + 2 * (p * r) ≡ (p + q + r) * (p + q + r) + q * q =
-    omega (arith, add_mul p q (p + q), mul_add p p q, mul_add q p q, add_mul q r (q + r), mul_add q q r, mul_add r q r, add_mul (p + q) r (p + q + r), mul_add (p + q) (p + q) r, add_mul p q r, mul_add r (p + q) r, mul_add r p q, mul_comm q p, mul_comm r q, mul_comm r p) in
+    omega (arith, add-mul p q (p + q), mul-add p p q, mul-add q p q, add-mul q r (q + r), mul-add q q r, mul-add r q r, add-mul (p + q) r (p + q + r), mul-add (p + q) (p + q) r, add-mul p q r, mul-add r (p + q) r, mul-add r p q, mul_comm q p, mul_comm r q, mul_comm r p) in
     omega (arith, square_of_apart (p + q) g, square_of_apart (q + r) g, square_of_apart (p + q + r) g, square_of_apart q g, lines, squares)
 
 pub even_quadrangle : (g a b c d : ℕ) → a < b → b < c → c < d → even_weight g a c + even_weight g b d ≤ even_weight g a d + even_weight g b c
