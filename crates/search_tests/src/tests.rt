@@ -234,13 +234,13 @@ fn strips_agree_with_a_plain_scan(rt: HostRuntime) -> Result<(), Fail> {
 fn answers_known_by_hand(rt: HostRuntime) -> Result<(), Fail> {
     let mut gaps = Blocks::new(SQUARED_GAP, 0);
     let done = tried(rt.alloc(), &mut gaps, strip_of([0, 9, 0, 7]), 9, 36)?;
-    assert!(rt; done.answers.as_slice() == &[0, 1, 2, 3, 4, 5, 6, 6, 6]);
+    assert!(rt; done.answers.as_slice() == [0, 1, 2, 3, 4, 5, 6, 6, 6].as_slice());
     let mut pairs = Blocks::new(PAIRS_LEVEL, 0);
     let done = tried(rt.alloc(), &mut pairs, strip_of([2, 4, 5, 20]), 4, 16)?;
-    assert!(rt; done.answers.as_slice() == &[5, 6, 8, 10]);
+    assert!(rt; done.answers.as_slice() == [5, 6, 8, 10].as_slice());
     let mut level = Blocks::new(ALL_LEVEL, 0);
     let done = tried(rt.alloc(), &mut level, strip_of([4, 5, 9, 17]), 5, 20)?;
-    assert!(rt; done.answers.as_slice() == &[9, 9, 9, 9, 9]);
+    assert!(rt; done.answers.as_slice() == [9, 9, 9, 9, 9].as_slice());
     Ok(())
 }
 
@@ -315,7 +315,7 @@ fn a_full_ledger_rises_no_further(rt: HostRuntime) -> Result<(), Fail> {
         let done = tried(rt.alloc(), &mut sheet, strip_of([0, 9, 0, 7]), 9, 36)?;
         assert_eq!(rt; done.answer, Ok(left));
         assert_eq!(rt; sheet.ledger(), most);
-        assert!(rt; done.answers.as_slice() == &[0, 1, 2, 3, 4, 5, 6, 6, 6]);
+        assert!(rt; done.answers.as_slice() == [0, 1, 2, 3, 4, 5, 6, 6, 6].as_slice());
     }
     Ok(())
 }
