@@ -1,7 +1,7 @@
 #!/usr/bin/env python3
 """What the program `pace` should print without the clock, from a model of its own: the row search as the
 textbooks have it, a recursion on every second row, with each read of an entry counted. It shares no code with
-the library. As there, the reduction keeps what it read of the topmost column in that column's own row."""
+the library. As there, a comparison of the reduction reads both entries."""
 
 SIZES = (64, 128, 256, 512)
 
@@ -18,21 +18,16 @@ class Sheet:
 
 
 def reduce(sheet, rows, columns):
-    kept, top = [], None
+    kept = []
     for column in columns:
-        own = None
         while kept:
             row = rows[len(kept) - 1]
-            old = sheet.read(row, kept[-1]) if top is None else top
-            new = sheet.read(row, column)
-            if not new < old:
-                top = old
+            old = sheet.read(row, kept[-1])
+            if not sheet.read(row, column) < old:
                 break
             kept.pop()
-            top, own = None, new
         if len(kept) < len(rows):
             kept.append(column)
-            top = own
     return kept
 
 
