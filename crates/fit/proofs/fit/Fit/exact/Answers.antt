@@ -1,4 +1,4 @@
-use Rattle.std.proofs.Common.{◌≡◌, ℕ, ◌≤◌, sym, refl, ap, ◌∙◌, subst, arith}
+use Rattle.std.proofs.Common.{◌≡◌, ◌≤◌, sym, refl, ap, ◌∙◌, subst, arith}
 use Rattle.division.specs.Costs.{number_or_zero}
 use Rattle.division.specs.Divisions.{Least}
 use Rattle.division.specs.Tables.{tally_at}
