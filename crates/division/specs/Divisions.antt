@@ -1,7 +1,7 @@
 -- Divisions of readings into spans, what they weigh, and which of them a divide answers.
 -- A division of the first n readings is the rising list of its ends, the last of which is n; each span runs from the
 -- end before it, the first from 0. Its ends but the last are its breakpoints.
-use Rattle.std.specs.Prelude.{◌≡◌, ℕ, ◌+◌, ◌<◌, ◌≤◌, ◌⊎◌, List, [], ◌∷◌, length, slice_index, slice_index_or}
+use Rattle.std.specs.Prelude.{◌≡◌, ℕ, ◌+◌, ◌<◌, ◌≤◌, ◌⊎◌, List, [], ◌∷◌, length, slice_index}
 use Rattle.division.specs.declared.cost.Cost.{Cost}
 use Rattle.division.specs.declared.cost.Cost.TheVariants.{Number, Empty}
 
@@ -34,7 +34,7 @@ Tally weight k j Empty = (ends : List ℕ) → Division k j ends → ⊥
 -- Two divisions of the same readings have the same last end, so that place is one of their breakpoints.
 pub record LaterCut (ends others : List ℕ) : Type 0 where
   pub place : ℕ
-  pub later : slice_index_or ends place 0 < slice_index others place
+  pub later : slice_index ends place < slice_index others place
   pub same_after : (p : ℕ) → place < p → slice_index ends p ≡ slice_index others p
 
 -- `others` has more spans; or it has as many, and at the last place where their breakpoints differ its own is later

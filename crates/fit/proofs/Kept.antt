@@ -1,6 +1,6 @@
 -- What was read of a round is kept in the table's row of one span more, and the rounds together fill it.
-use Rattle.std.proofs.Common.{◌≡◌, ℕ, suc, ◌+◌, ◌-◌, ◌*◌, ◌^◌, ◌<◌, ◌≤◌, min, cond, ltb, ◌⊎◌, List, get_or, sym, refl, ap, ◌∙◌, subst, inl, inr, ⊎_elim, add_mul, one-mul, add-one, arith}
-use Rattle.std.proofs.lemmas.Bool.{cond-false, le-ltb, cases_lt, cases_eq}
+use Rattle.std.proofs.Common.{◌≡◌, ℕ, suc, ◌+◌, ◌-◌, ◌*◌, ◌^◌, ◌<◌, ◌≤◌, cond, ltb, List, get_or, sym, refl, ap, ◌∙◌, subst, ⊎_elim, add-mul, one-mul, arith}
+use Rattle.std.proofs.lemmas.Bool.{cond-false, le-ltb, cases_lt}
 use Rattle.search.specs.Reading.{Reads}
 use Rattle.search.specs.Least.{Leftmost}
 use Rattle.search.proofs.Least.{leftmost_same}
@@ -11,7 +11,7 @@ use Rattle.division.specs.declared.table.Table.{Table}
 use Rattle.division.specs.Costs.{Small, plus, before}
 use Rattle.division.specs.Rounds.{round_entry}
 use Rattle.division.specs.Tables.{tally_at, cut_at, carried_at, carry, Put}
-use Rattle.division.specs.Fillings.{Filled, Light}
+use Rattle.division.specs.Fillings.{Filled}
 use Rattle.division.proofs.Tables.{entry_small}
 use Rattle.division.proofs.Rounds.{entry_same}
 use Rattle.fit.specs.declared.rounds.Rounds.{Rounds}
@@ -192,7 +192,7 @@ module _ {W : Type 0} (m : Ghosts W) where
       let same = done.weighed.same in
       let hold = same.held_same in
       let each : ℕ = 4 * m.held s.weighing + 13 * (m.held s.weighing - mark) in
-      let sum = add_mul k 1 each in
+      let sum = add-mul k 1 each in
       let unit = one-mul each in
       let first = ap (λ n. n - mark) hold in
       let other : (p : ℕ) (j : ℕ) → (p ≡ suc k → ⊥) → SameCell t.table u.table p j = λ p j ne. one.others p j (λ q. ne q.0) in

@@ -1,5 +1,5 @@
 -- Each call keeps the tallies of the settled readings right.
-use Rattle.std.proofs.Common.{◌≡◌, ℕ, ◌+◌, ◌-◌, ◌*◌, ◌^◌, ◌<◌, ◌≤◌, min, ◌⊎◌, List, length, Ok, Err, Result, sym, refl, ap, ◌∙◌, subst, inl, inr, ⊎_elim, arith}
+use Rattle.std.proofs.Common.{◌≡◌, ℕ, ◌-◌, ◌^◌, ◌<◌, ◌≤◌, min, List, Ok, Err, Result, sym, refl, ap, subst, inl, inr, arith}
 use Rattle.weighing.specs.declared.weighing.Weighing.{Ghosts}
 use Rattle.weighing.specs.Calls.{Leaves}
 use Rattle.weighing.specs.Did.{LevelsKept}
@@ -12,11 +12,9 @@ use Rattle.division.proofs.Divide.{exact_least}
 use Rattle.refusal.specs.declared.Refusal.{Refusal}
 use Rattle.refusal.specs.Numbers.{number}
 use Rattle.division.proofs.Fillings.{fillings_stand, tables_stay}
-use Rattle.fit.specs.declared.rounds.Rounds.{Rounds}
 use Rattle.fit.specs.declared.fit.Fit.{Fit}
-use Rattle.fit.specs.Rounds.{SameWeighing}
-use Rattle.fit.specs.Filling.{RoundsDone, SameCell}
-use Rattle.fit.specs.Calls.{Sound, Shifts, Settled, Allowed, DivideDid, size, unsettled, weighing_of, table_of}
+use Rattle.fit.specs.Filling.{RoundsDone}
+use Rattle.fit.specs.Calls.{Sound, Shifts, Settled, Allowed, DivideDid, size, weighing_of, table_of}
 
 module _ {W : Type 0} (m : Ghosts W) where
   -- spans that are held before and after weigh the same, so the tallies below the mark stay right

@@ -12,8 +12,8 @@ use weighing::weighing::Weighing;
 impl<W: Weighing> Rounds<W> {
     // Reads an entry once more, and keeps it as the tally of the row's readings and its column as their last cut.
     fn keep(&mut self, row: usize, column: usize)
-        requires row { row < held self.old.weighing }
-        requires column { column < held self.old.weighing }
+        requires row { row < W.held self.old.weighing }
+        requires column { column < W.held self.old.weighing }
         requires round { self.old.round < 8 }
         requires ledger { ledger_of self.old + 1 < 2 ^ 63 - 1 }
         ensures after { KeptOne W.Weighing self.old self.new row column }
@@ -26,9 +26,9 @@ impl<W: Weighing> Rounds<W> {
 
     // Keeps what a search found for `many` rows from `mark` on, a column for each.
     fn keep_all(&mut self, mark: usize, many: usize, columns: &[usize])
-        requires rows { mark + many ≤ held self.old.weighing }
+        requires rows { mark + many ≤ W.held self.old.weighing }
         requires long { many ≤ length columns.now }
-        requires found { (i : ℕ) → i < many → slice_index columns.now i < held self.old.weighing }
+        requires found { (i : ℕ) → i < many → slice_index columns.now i < W.held self.old.weighing }
         requires round { self.old.round < 8 }
         requires ledger { ledger_of self.old + many < 2 ^ 63 - 1 }
         ensures after { KeptAll W.Weighing self.old self.new mark many columns.now }
@@ -41,9 +41,9 @@ impl<W: Weighing> Rounds<W> {
     // One round over the readings from `mark` on.
     fn run(&mut self, round: usize, mark: usize, answers: &mut [usize], work: &mut [usize])
         requires round { round < 8 }
-        requires some { mark < held self.old.weighing }
-        requires long { held self.old.weighing - mark ≤ length answers.old }
-        requires room { 4 * (held self.old.weighing - mark) ≤ length work.old }
+        requires some { mark < W.held self.old.weighing }
+        requires long { W.held self.old.weighing - mark ≤ length answers.old }
+        requires room { 4 * (W.held self.old.weighing - mark) ≤ length work.old }
         ensures after { RoundDone W.Weighing self.old self.new round mark answers.old answers.new work.old work.new }
     {
         let n = self.weighing.held();
@@ -70,9 +70,9 @@ impl<W: Weighing> Rounds<W> {
         work: &mut [usize],
     )
         requires limit { limit ≤ 8 }
-        requires some { mark < held self.old.weighing }
-        requires long { held self.old.weighing - mark ≤ length answers.old }
-        requires room { 4 * (held self.old.weighing - mark) ≤ length work.old }
+        requires some { mark < W.held self.old.weighing }
+        requires long { W.held self.old.weighing - mark ≤ length answers.old }
+        requires room { 4 * (W.held self.old.weighing - mark) ≤ length work.old }
         ensures after { RoundsDone W.Weighing self.old self.new limit mark answers.old answers.new work.old work.new }
     {
         for round in 0..limit {

@@ -1,7 +1,6 @@
 -- What every run of a fit keeps, and so what its next call answers.
-use Rattle.std.proofs.Common.{◌≡◌, ℕ, zero, suc, ◌+◌, ◌-◌, ◌*◌, ◌<◌, ◌≤◌, min, max, Bool, true, false, cond, ◌⊎◌, List, [], ◌∷◌, map, length, drop, replicate, Ok, Err, Result, sym, refl, ap, ◌∙◌, subst, inl, inr, ⊎_elim, arith}
+use Rattle.std.proofs.Common.{◌≡◌, ℕ, zero, suc, ◌+◌, ◌-◌, ◌*◌, ◌<◌, ◌≤◌, min, Bool, true, false, ◌⊎◌, List, [], ◌∷◌, map, length, replicate, Ok, Err, Result, sym, refl, ap, ◌∙◌, subst, inl, inr, arith}
 use Rattle.refusal.specs.declared.Refusal.{Refusal}
-use Rattle.refusal.specs.Rules.{Broken, NoOther}
 use Rattle.weighing.specs.declared.weighing.Weighing.{Ghosts}
 use Rattle.division.specs.declared.table.Told.{Told}
 use Rattle.division.specs.Divide.{Answered, BestFits}
@@ -11,7 +10,7 @@ use Rattle.runs.specs.declared.step.Call.{Call}
 use Rattle.runs.specs.declared.step.Call.TheVariants.{Take, Drop, Wipe, Settle, Divide, Exact}
 use Rattle.runs.specs.declared.step.Answer.{Answer}
 use Rattle.runs.specs.declared.step.Answer.TheVariants.{Held, Settled, Divided, Weight}
-use Rattle.fit.specs.Calls.{Sound, Opens, Shifts, Allowed, Long, TakeDid, DropDid, WipeDid, SettleDid, DivideDid, ExactDid, size, unsettled, weighing_of, limit_of}
+use Rattle.fit.specs.Calls.{Sound, Allowed, Long, TakeDid, DropDid, WipeDid, SettleDid, DivideDid, ExactDid, size, unsettled, weighing_of, limit_of}
 use Rattle.runs.specs.Runs.{ByHeld, BySettled, ByDivided, ByWeight, Unrefused, Lists, Did, Event, Reached, opened, called, all_but_last, after_call, readings, settled, Asked, TakeMeets, DropMeets, SettleMeets, DivideMeets, ExactMeets, Meets, Law}
 
 -- an answer of the right kind, or a refusal

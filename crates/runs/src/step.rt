@@ -33,7 +33,7 @@ fn act<W: Weighing>(
     ends: &mut [usize],
     work: &mut [usize],
 ) -> Result<Answer, Refusal>
-    ensures did { Did W.Weighing fit.old call (record { ends = ends.entry.now; work = work.old }) result fit.new (record { ends = ends.exit.now; work = work.new }) }
+    ensures did { Did W.Weighing fit.old call (record { ends = ends.old; work = work.old }) result fit.new (record { ends = ends.new; work = work.new }) }
 {
     match call {
         Call::Take(reading) => Ok(Answer::Held(fit.take(reading)?)),
@@ -59,8 +59,8 @@ pub fn step<W: Weighing>(
     ends: &mut [usize],
     work: &mut [usize],
 ) -> Result<Answer, Refusal>
-    ensures did { Did W.Weighing fit.old call (record { ends = ends.entry.now; work = work.old }) result fit.new (record { ends = ends.exit.now; work = work.new }) }
-    ensures law { Law W.Weighing fit.old fit.new call (record { ends = ends.entry.now; work = work.old }) result (record { ends = ends.exit.now; work = work.new }) }
+    ensures did { Did W.Weighing fit.old call (record { ends = ends.old; work = work.old }) result fit.new (record { ends = ends.new; work = work.new }) }
+    ensures law { Law W.Weighing fit.old fit.new call (record { ends = ends.old; work = work.old }) result (record { ends = ends.new; work = work.new }) }
 {
     act(fit, call, ends, work)
 }

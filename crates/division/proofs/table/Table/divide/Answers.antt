@@ -15,14 +15,14 @@ returns-then-ends-spans c =
 
 pub returns : goal.returns
 returns c =
-    let told : Told = record { spans = c.fewest-spans.result; weight = c.or-zero-weight.result } in
+    let told : Told = record { spans = c.fewest-spans.result; weight = c.or_zero-weight.result } in
     let off : ReadOff c.args.self.now c.args.n c.args.k c.args.ends.now told c.follow.new.ends =
     record {
       held = omega arith;
       readings = omega arith;
       spans = record { some = omega arith; few = omega arith };
       fewest = c.fewest-spans.ensures.value;
-      weighs = c.or-zero-weight.ensures.value ∙ ap number_or_zero c.tally.ensures.value;
+      weighs = c.or_zero-weight.ensures.value ∙ ap number_or_zero c.tally.ensures.value;
       room = omega arith;
       ends = c.follow.ensures.first;
       rest = c.follow.ensures.rest;

@@ -8,7 +8,7 @@ pub returns : goal.returns
 returns g c =
     let m = g.W.Weighing in
     let f = c.args.self.now in
-    let ready = c.in-ok-n.ensures.answer in
+    let ready = c.in_ok-n.ensures.answer in
     let n = ready.0 in
     let k = c.args.k in
     let old = c.args.ends.now in

@@ -4,5 +4,5 @@ use Rattle.fit.proofs.fit.Fit.drop_last.Goals as goal
 
 pub returns : goal.returns
 returns g c =
-    let did = c.in-ok-left.ensures in
+    let did = c.in_ok-left.ensures in
     record { answer = (did.answer, shifts g.W.Weighing did.answer.2 did.levels refl refl c.min-self.ensures) }

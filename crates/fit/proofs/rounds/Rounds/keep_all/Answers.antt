@@ -1,4 +1,4 @@
-use Rattle.std.proofs.Common.{ℕ, ◌+◌, ◌<◌, ◌≤◌, arith}
+use Rattle.std.proofs.Common.{◌+◌, ◌<◌, arith}
 use Rattle.fit.proofs.Kept.{kept_none, kept_more}
 use Rattle.fit.proofs.rounds.Rounds.keep_all.Goals as goal
 
