@@ -1,5 +1,5 @@
 -- Strict convexity in one pass: three tests at each corner give a left turn at every three corners with rising numbers.
-use Rattle.std.proofs.Common.{◌≡◌, ℕ, zero, suc, ◌+◌, ◌-◌, ◌<◌, ◌≤◌, ◌⊎◌, ℤ, pos, ◌<ℤ◌, sym, refl, subst, inl, inr, arith}
+use Rattle.std.proofs.Common.{◌≡◌, ℕ, zero, suc, ◌+◌, ◌-◌, ◌<◌, ◌⊎◌, sym, subst, inl, inr, arith}
 use Rattle.hull.specs.declared.corner.Corner.{Corner}
 use Rattle.hull.specs.Plane.{Left}
 use Rattle.hull.specs.PlaneLemmas.{left_before, left_beyond, left_on, left_back}
