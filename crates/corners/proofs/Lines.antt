@@ -1,10 +1,10 @@
 -- A line has one reading: a number holds no space, so the first space parts the two numbers.
-use Rattle.std.proofs.Common.{◌≡◌, ℕ, zero, suc, ◌+◌, ◌<◌, ◌≤◌, Bool, true, false, cond, eqb, List, [], ◌∷◌, ◌++◌, length, get_or, drop, ℤ, Some, None, Option, sym, refl, ap, ◌∙◌, subst, arith, length-append, Bor, eqb-true, MatchOption}
-use Rattle.std.specs.Str.Parse.{AllDigits, IsNumeral, without_leading_sign}
+use Rattle.std.proofs.Common.{◌≡◌, ℕ, zero, suc, ◌+◌, ◌<◌, Bool, true, false, cond, eqb, List, [], ◌∷◌, ◌++◌, length, get_or, drop, ℤ, Some, sym, refl, ap, ◌∙◌, subst, arith, length-append, Bor, eqb-true}
+use Rattle.std.specs.Str.Parse.{AllDigits}
 use Rattle.std.proofs.lemmas.Str.Parse.{digit_at}
 use Rattle.std.proofs.lemmas.Str.Pattern.{IsSplitOnceResult, split_after, split_parts}
 use Rattle.hull.specs.declared.corner.Corner.{Corner}
-use Rattle.corners.specs.Lines.{Writes, SomeNumber, Written, SomeCorner}
+use Rattle.corners.specs.Lines.{Writes, Written, SomeCorner}
 
 abbrev NoSpace : List ℕ → Type 0
 NoSpace text = (i : ℕ) → i < length text → get_or text i 0 ≡ 32 → ⊥

@@ -1,5 +1,5 @@
 -- Strict convexity in one pass: three tests at each corner give a left turn at every three corners with rising numbers.
-use Rattle.std.proofs.Common.{◌≡◌, ℕ, zero, suc, ◌+◌, ◌-◌, ◌<◌, ◌≤◌, ◌⊎◌, ℤ, pos, ◌<ℤ◌, sym, refl, subst, inl, inr, arith}
+use Rattle.std.proofs.Common.{◌≡◌, ℕ, zero, suc, ◌+◌, ◌-◌, ◌<◌, ◌⊎◌, sym, subst, inl, inr, arith}
 use Rattle.hull.specs.declared.corner.Corner.{Corner}
 use Rattle.hull.specs.Plane.{Left}
 use Rattle.hull.specs.PlaneLemmas.{left_before, left_beyond, left_on, left_back}
@@ -84,11 +84,11 @@ two_tested P = record { past_first = λ k a b. absurd (omega arith); fanned = λ
 
 -- one more corner, by the three tests at it
 pub one_more_tested : (P : ℕ → Corner) (n : ℕ) → Tested P n → Left (P 0) (P 1) (P n) → Left (P 0) (P (n - 1)) (P n) → Left (P (n - 2)) (P (n - 1)) (P n) → Tested P (n + 1)
-one_more_tested P n t at_first at_Side at-bend =
+one_more_tested P n t at_first at_side at_bend =
     record {
       past_first = λ k a b. elim (below_suc k n (omega arith)) [ inl e ↦ subst (λ m. Left (P 0) (P 1) (P m)) (sym e) at_first | inr l ↦ t.past_first k a l ];
       fanned = λ k a b. elim (below_suc (suc k) n (omega arith))
-          [ inl e ↦ rw e (let before : k ≡ n - 1 = omega arith in rw before at_Side) | inr l ↦ t.fanned k a l ];
+          [ inl e ↦ rw e (let before : k ≡ n - 1 = omega arith in rw before at_side) | inr l ↦ t.fanned k a l ];
       bent = λ k b. elim (below_suc (suc (suc k)) n (omega arith))
-          [ inl e ↦ rw e (let before : suc k ≡ n - 1 = omega arith in let earlier : k ≡ n - 2 = omega arith in rw before (rw earlier at-bend)) | inr l ↦ t.bent k l ];
+          [ inl e ↦ rw e (let before : suc k ≡ n - 1 = omega arith in let earlier : k ≡ n - 2 = omega arith in rw before (rw earlier at_bend)) | inr l ↦ t.bent k l ];
     }

@@ -1,6 +1,6 @@
 -- The greatest swing, one corner after the other.
-use Rattle.std.proofs.Common.{◌≡◌, ℕ, suc, ◌+◌, ◌<◌, ◌⊎◌, List, length, get_or, ℤ, ◌≤ℤ◌, ◌<ℤ◌, sym, refl, subst, inl, inr, arith}
-use borrow.Author.Differences.{ints}
+use Rattle.std.proofs.Common.{◌≡◌, ℕ, ◌+◌, ◌<◌, ◌⊎◌, List, length, get_or, ℤ, ◌≤ℤ◌, ◌<ℤ◌, sym, subst, inl, inr, arith}
+use Rattle.std.proofs.lemmas.Int.{ints}
 use Rattle.hull.specs.declared.corner.Corner.{Corner}
 use Rattle.hull.specs.Plane.{distance, corner_at}
 use Rattle.hull.specs.Widest.{swing_of, Greatest, AllFarthest, Widest}

@@ -1,11 +1,11 @@
 -- Polynomial identities over the whole numbers, decided by computing: `ring` shows that two terms in n variables have the same
 -- meaning where their difference normalises to the polynomial with no coefficient but 0.
-use Rattle.std.specs.Prelude.{◌≡◌, ℕ, zero, suc, ◌+◌, ◌*◌, Bool, true, false, T, List, [], ◌∷◌, ℤ, pos, negsuc, ◌+ℤ◌, ◌-ℤ◌, ◌*ℤ◌, neg_ℤ, refl}
+use Rattle.std.specs.Prelude.{◌≡◌, ℕ, zero, suc, ◌*◌, Bool, true, false, T, List, [], ◌∷◌, ℤ, pos, negsuc, ◌+ℤ◌, ◌-ℤ◌, ◌*ℤ◌, neg_ℤ, refl}
 use Rattle.std.proofs.Common.{sym, ap, ◌∙◌, arith}
 use Rattle.std.proofs.Math.IntN.{+ℤ_idl, +ℤ_idr, zero-*ℤ, *ℤ-zero, *ℤ_comm}
 use borrow.Author.Differences.{ints, up, down, same_in, sum_is_lem, product_is, neg_is}
 
--- ring laws that lib.IntN lacks
+-- ring laws that std lacks
 pub mul_add : (a b c : ℤ) → a *ℤ (b +ℤ c) ≡ a *ℤ b +ℤ a *ℤ c
 mul_add a b c =
     same_in _ _ (omega (arith, sum_is_lem (a *ℤ b) (a *ℤ c), product_is a b, product_is a c, product_is a (b +ℤ c), ap (λ n. up a * n) (sum_is_lem b c), ap (λ n. down a * n) (sum_is_lem b c)))

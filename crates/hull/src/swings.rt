@@ -4,7 +4,7 @@ ghost use Rattle.hull.specs.declared.reach.Reach.{Reach};
 ghost use Rattle.hull.specs.Hulls.{corners_of};
 ghost use Rattle.hull.specs.Reaches.{reach, ReachesWithin};
 ghost use Rattle.hull.specs.ReachesLemmas.{reach_monotone, below_true, true_below};
-ghost use Rattle.std.proofs.Common.{rules, arith};
+ghost use Rattle.std.proofs.Common.{rules};
 
 use crate::corner::distance;
 use crate::reach::Reach;
@@ -78,21 +78,21 @@ impl Sheet for Swings {
 
     ghost passes = { λ s t. t.hull ≡ s.hull };
 
-    ghost irreflexive = { first_of (Prim.search rules, Prim.grind (arith, Self.row.coded.inj)) };
+    ghost irreflexive = { Prim.search rules };
 
-    ghost transitive = { first_of (Prim.search rules, Prim.grind (arith, Self.row.coded.inj)) };
+    ghost transitive = { Prim.search rules };
 
-    ghost weak = { first_of (Prim.search rules, Prim.grind (arith, Self.row.coded.inj)) };
+    ghost weak = { Prim.search rules };
 
-    ghost low = { first_of (Prim.search rules, Prim.grind (arith, Self.row.coded.inj)) };
+    ghost low = { Prim.search rules };
 
-    ghost narrow = { first_of (Prim.search rules, Prim.grind (arith, Self.row.coded.inj)) };
+    ghost narrow = { Prim.search rules };
 
-    ghost capped = { first_of (Prim.search rules, Prim.grind (arith, Self.row.coded.inj)) };
+    ghost capped = { Prim.search rules };
 
-    ghost stays = { first_of (Prim.search rules, Prim.grind (arith, Self.row.coded.inj)) };
+    ghost stays = { Prim.search rules };
 
-    ghost onward = { first_of (Prim.search rules, Prim.grind (arith, Self.row.coded.inj)) };
+    ghost onward = { Prim.search rules };
 
     ghost monotone = { λ s i j a b ij jn ab bn e.
         let cs = corners_of s.hull in

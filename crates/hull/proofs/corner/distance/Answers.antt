@@ -4,8 +4,8 @@ use Rattle.hull.specs.Plane.{Coordinate}
 use Rattle.hull.specs.Bounds.{coordinate_fits32, small_fits, small_sum_fits}
 use Rattle.hull.proofs.corner.distance.Goals as goal
 
-pub overflow-add-result : goal.overflow-add-result
-overflow-add-result c =
+pub overflow_add-result : goal.overflow_add-result
+overflow_add-result c =
     let x = c.product.ensures.small in
     let y = c.product-2.ensures.small in
     simp (to_z-of_z, small_fits) (small_sum_fits c.product.result c.product-2.result x y)

@@ -6,8 +6,8 @@ use Rattle.hull.proofs.corner.product.Goals as goal
 
 ruleset plain = (to_z-of_z, coordinate_fits32, coordinate_fits64, difference_fits)
 
-pub overflow-mul-result : goal.overflow-mul-result
-overflow-mul-result c =
+pub overflow_mul-result : goal.overflow_mul-result
+overflow_mul-result c =
     let a : Coordinate c.args.a = c.requires.0 in
     let b : Coordinate c.args.b = c.requires.1.0 in
     let x : Coordinate c.args.c = c.requires.1.1.0 in

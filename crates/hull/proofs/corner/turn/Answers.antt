@@ -4,8 +4,8 @@ use Rattle.hull.specs.Plane.{Coordinate}
 use Rattle.hull.specs.Bounds.{coordinate_fits32, small_fits, small_difference_fits}
 use Rattle.hull.proofs.corner.turn.Goals as goal
 
-pub overflow-sub-result : goal.overflow-sub-result
-overflow-sub-result c =
+pub overflow_sub-result : goal.overflow_sub-result
+overflow_sub-result c =
     let x = c.product.ensures.small in
     let y = c.product-2.ensures.small in
     simp (to_z-of_z, small_fits) (small_difference_fits c.product.result c.product-2.result x y)

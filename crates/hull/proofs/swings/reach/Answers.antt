@@ -1,6 +1,6 @@
 -- Each way of the code answers its part of the row.
 use Rattle.std.proofs.Common.{◌≡◌, ◌%◌, ap, ◌∙◌, arith, to_z-of_z, w64, SFits, rules}
-use borrow.Author.Differences.{ints}
+use Rattle.std.proofs.lemmas.Int.{ints}
 use Rattle.hull.specs.declared.corner.Corner.{Corner}
 use Rattle.hull.specs.Plane.{distance, corner_at}
 use Rattle.hull.specs.Hulls.{corners_of}

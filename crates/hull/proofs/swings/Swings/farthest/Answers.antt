@@ -8,11 +8,11 @@ pub returns : goal.returns
 returns c =
     let hull = c.args.self.now.hull in
     let cs = corners_of hull in
-    let long = c.in-ok-told.ensures.answer.1 in
-    let searched = c.in-ok-told.ensures.answer.2 in
+    let long = c.in_ok-told.ensures.answer.1 in
+    let searched = c.in_ok-told.ensures.answer.2 in
     let all : c.count-n.result ≡ length cs = c.count-n.ensures.value in
-    let brought = c.bring-round.ensures in
-    let found = columns_name_farthest cs hull.enough hull.left c.count-n.result all c.search.new.answers c.bring-round.new.columns searched.found brought.brought in
+    let brought = c.bring_round.ensures in
+    let found = columns_name_farthest cs hull.enough hull.left c.count-n.result all c.search.new.answers c.bring_round.new.columns searched.found brought.brought in
     record {
       answer = (
         record { for_answers = omega (arith, long.for_answers); for_work = omega (arith, long.for_work) },

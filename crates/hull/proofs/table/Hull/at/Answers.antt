@@ -1,5 +1,5 @@
 -- A corner of the table below the count is that corner of the hull.
-use Rattle.std.proofs.Common.{◌≡◌, ◌<◌, get_or, pos, sym, subst, arith, get_or-take}
+use Rattle.std.proofs.Common.{◌≡◌, ◌<◌, pos, sym, subst, arith, get_or-take}
 use Rattle.hull.specs.Plane.{Near, corner_at}
 use Rattle.hull.specs.Hulls.{corners_of}
 use Rattle.hull.proofs.table.Hull.at.Goals as goal

@@ -13,15 +13,15 @@ pub loop-i-init : goal.loop-i-init
 loop-i-init c =
     let cs = corners_of c.args.self.now in
     let partners = c.args.partners.now in
-    let first = c.in-ok-greatest.ensures.answer in
-    let fits : SFits w64 c.in-ok-greatest.greatest = search rules in (
+    let first = c.in_ok-greatest.ensures.answer in
+    let fits : SFits w64 c.in_ok-greatest.greatest = search rules in (
       λ k h. let is : 0 ≡ k = omega arith in subst (λ (m : ℕ). get_or partners m 0 < length cs) is first.1,
-      simp to_z-of_z (greatest_first cs partners c.in-ok-greatest.greatest first.2),
+      simp to_z-of_z (greatest_first cs partners c.in_ok-greatest.greatest first.2),
     )
 
-pub returns-in-err-d : goal.returns-in-err-d
-returns-in-err-d c =
-    let p = err_from_is_err_and c.from-residual-in-err-d.result c.from-residual-in-err-d.ensures.1 in
+pub returns-in_err-d : goal.returns-in_err-d
+returns-in_err-d c =
+    let p = err_from_is_err_and c.from_residual-in_err-d.result c.from_residual-in_err-d.ensures.1 in
     let cs = corners_of c.args.self.now in
     let partners = c.args.partners.now in
     let i = c.loop-i.i in
@@ -29,7 +29,7 @@ returns-in-err-d c =
     let long : length cs ≤ length partners = omega (arith, c.count-n.ensures.value) in
     rw (p.1, p.2)
     (record {
-      answer = inr (long, stronger_broken ((i < length cs) × (get_or partners i 0 < length cs)) (Partnered cs partners) 8 _ (λ all. (below, all i below)) c.in-err-d.ensures.answer);
+      answer = inr (long, stronger_broken ((i < length cs) × (get_or partners i 0 < length cs)) (Partnered cs partners) 8 _ (λ all. (below, all i below)) c.in_err-d.ensures.answer);
       widest = tt;
     })
 
@@ -38,8 +38,8 @@ loop-i-preserved c =
     let cs = corners_of c.args.self.now in
     let partners = c.args.partners.now in
     let i = c.loop-i.i in
-    let d = c.in-ok-d.d in
-    let next = c.in-ok-d.ensures.answer in
+    let d = c.in_ok-d.d in
+    let next = c.in_ok-d.ensures.answer in
     let fits : SFits w64 d = search rules in (
       below_more _ _ c.loop-i.invariant.0 next.1,
       elim c.if-d-greatest.branch [

@@ -1,6 +1,6 @@
 -- Once all corners are copied, the hull's corners are those given, and what was tested of them holds of it.
 use Rattle.std.proofs.Common.{◌≡◌, ℕ, ◌<◌, List, [], ◌∷◌, ◌++◌, length, take, pos, sym, refl, ap, ◌∙◌, subst, arith, length-set}
-use lib.Seq.{take-length}
+use Rattle.std.proofs.Math.Seq.{take-length}
 use Rattle.std.proofs.lemmas.List.{take_more, take_more_set}
 use Rattle.hull.specs.declared.corner.Corner.{Corner}
 use Rattle.hull.specs.Plane.{corner_at}
@@ -23,30 +23,23 @@ loop-i-preserved c =
       simp length-set c.loop-i.invariant.1,
     )
 
-pub invariant-of-self : goal.invariant-of-self
-invariant-of-self c =
+pub invariant_of-self : goal.invariant_of-self
+invariant_of-self c =
     let held = copied c.loop-i.table c.args.corners.now c.loop-i.i (omega arith) c.loop-i.invariant.0 in
-    let same = sym held in (
-      ap length held,
-      (
-        subst Enough same (omega arith, omega arith),
-        (
-          subst AllNear same (c.if-not-all-near.ensures.near refl),
-          (
-            subst AllLeft same (c.if-not-all-left.ensures.left refl),
-            tt,
-          ),
-        ),
-      ),
-    )
+    let same = sym held in record {
+      counted = ap length held;
+      enough = subst Enough same (omega arith, omega arith);
+      near = subst AllNear same (c.if-not-all_near.ensures.near refl);
+      left = subst AllLeft same (c.if-not-all_left.ensures.left refl);
+    }
 
 pub returns : goal.returns
 returns c =
     record {
       answer = record {
         enough = (omega arith, omega arith);
-        near = c.if-not-all-near.ensures.near refl;
-        left = c.if-not-all-left.ensures.left refl;
+        near = c.if-not-all_near.ensures.near refl;
+        left = c.if-not-all_left.ensures.left refl;
         held = copied c.loop-i.table c.args.corners.now c.loop-i.i (omega arith) c.loop-i.invariant.0;
         many = refl;
       };
