@@ -1,4 +1,4 @@
-use Rattle.std.proofs.Common.{length, sym, ap, subst, arith, rules}
+use Rattle.std.proofs.Common.{length, sym, ap, subst, rules}
 use Rattle.console.specs.Numerals.{Numeral}
 use Rattle.console.proofs.Grammar.{part_fits, parts_split, parts_of_two}
 use Rattle.console.proofs.words.two_numbers.Goals as goal

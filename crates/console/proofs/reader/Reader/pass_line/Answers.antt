@@ -1,7 +1,7 @@
 -- Where the line lies, and that the place moved past it, is the same whether it is too long or not.
-use Rattle.std.proofs.Common.{◌≡◌, ◌+◌, ◌<◌, length, ap, arith, rules}
-use Rattle.console.specs.Lines.{line_at, place_after}
-use Rattle.console.proofs.Lines.{rest_of, rest_length, line_found, place_moved}
+use Rattle.std.proofs.Common.{◌≡◌, length, ap, arith, rules}
+use Rattle.console.specs.Lines.{line_at}
+use Rattle.console.proofs.Lines.{rest_length, line_found, place_moved}
 use Rattle.console.proofs.reader.Reader.pass_line.Goals as goal
 
 pub returns-then-line-gt-MOST_BYTES : goal.returns-then-line-gt-MOST_BYTES
