@@ -1,4 +1,4 @@
-use Rattle.std.proofs.Common.{◌≡◌, decimal, ap, ◌∙◌, inl, inr, arith, rules}
+use Rattle.std.proofs.Common.{◌≡◌, decimal, ap, ◌∙◌, inl, arith, rules}
 use Rattle.console.specs.Numerals.{Numeral, value}
 use Rattle.console.proofs.Numerals.{digit_more, digits_all, value_below, value_written}
 use Rattle.console.proofs.digits.value_of.Goals as goal
