@@ -36,9 +36,9 @@ pub order : WeakOrder before
 order = record { irreflexive = irreflexive; transitive = transitive; weak = weak }
 
 -- the leftmost least of one entry more, the `next`
-module _ (f : ℕ → Cost) (first count best next more : ℕ) (so_far : Leftmost before f first count best) (is-next : first + count ≡ next) (is-more : count + 1 ≡ more) where
+module _ (f : ℕ → Cost) (first count best next more : ℕ) (so_far : Leftmost before f first count best) (is_next : first + count ≡ next) (is_more : count + 1 ≡ more) where
   pub leftmost_moves : before (f next) (f best) ≡ true → Leftmost before f first more next
-  leftmost_moves p = subst₂ (Leftmost before f first) is-more is-next (leftmost_takes order f first count best so_far (rw is-next p))
+  leftmost_moves p = subst₂ (Leftmost before f first) is_more is_next (leftmost_takes order f first count best so_far (rw is_next p))
 
   pub leftmost_stays : before (f next) (f best) ≡ false → Leftmost before f first more best
-  leftmost_stays p = subst (λ (n : ℕ). Leftmost before f first n best) is-more (leftmost_keeps order f first count best so_far (rw is-next p))
+  leftmost_stays p = subst (λ (n : ℕ). Leftmost before f first n best) is_more (leftmost_keeps order f first count best so_far (rw is_next p))

@@ -35,7 +35,7 @@ module _ {X : Type 0} (k j : ℕ) where
       go false c = refl
 
 module _ (old : Table) (j held cut i : ℕ) (cost : Cost)
-    (readings : j ≤ 512) (tallies-in : i < length old.tallies) (cuts-in : i < length old.cuts)
+    (readings : j ≤ 512) (tallies_in : i < length old.tallies) (cuts_in : i < length old.cuts)
     (holds : cost_of held ≡ cost) (near : cut ≤ 512) where
   new : Table
   new = record { tallies = set old.tallies i held; cuts = set old.cuts i cut }
@@ -56,10 +56,10 @@ module _ (old : Table) (j held cut i : ℕ) (cost : Cost)
   unfolding new
   here k h place = (
     cell_is k j _ Empty h readings
-        ∙ ap cost_of (ap (λ (p : ℕ). get_or (set old.tallies i held) p 0) (sym place) ∙ get_or-set_same old.tallies i held 0 tallies-in)
+        ∙ ap cost_of (ap (λ (p : ℕ). get_or (set old.tallies i held) p 0) (sym place) ∙ get_or-set_same old.tallies i held 0 tallies_in)
         ∙ holds,
     cell_is k j _ 0 h readings
-        ∙ ap (min 512) (ap (λ (p : ℕ). get_or (set old.cuts i cut) p 0) (sym place) ∙ get_or-set_same old.cuts i cut 0 cuts-in)
+        ∙ ap (min 512) (ap (λ (p : ℕ). get_or (set old.cuts i cut) p 0) (sym place) ∙ get_or-set_same old.cuts i cut 0 cuts_in)
         ∙ omega arith,
   )
 

@@ -65,16 +65,16 @@ module _ {W : Type 0} (m : Ghosts W) where
       let risen = r.ledger_risen in
       let exact : ledger_of t ≡ ledger_of s + 1 = omega arith in
       let k : t.round + 1 ≡ suc s.round = omega arith in
-      let put-at : Put (suc s.round) (row + 1) cost column s.table u = subst (λ x. Put x (row + 1) cost column s.table u) k (subst (λ x. Put (t.round + 1) (row + 1) cost column x u) table put) in
+      let put_at : Put (suc s.round) (row + 1) cost column s.table u = subst (λ x. Put x (row + 1) cost column s.table u) k (subst (λ x. Put (t.round + 1) (row + 1) cost column x u) table put) in
       let small : Small cost = subst Small (sym e) (small_entry (m.weight s.weighing) s.table s.round (row + 1) column (λ l. light column (row + 1) l (omega arith))) in
-      let here = put-at.here (record { some = omega arith; few = omega arith; readings = omega arith; small = small; near = omega arith }) in
+      let here = put_at.here (record { some = omega arith; few = omega arith; readings = omega arith; small = small; near = omega arith }) in
       record {
         weighed = passing_weighed 1 p exact low;
         ledger_risen = exact;
         round_same = same;
         tally = here.0 ∙ e;
         cut = here.1;
-        others = put-at.others;
+        others = put_at.others;
       }
 
   -- an entry stands while the weights of the spans held and the tallies that it works from do

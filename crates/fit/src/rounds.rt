@@ -1,11 +1,11 @@
 //! The round sheet: what each last span would cost, over the tallies of one span less.
 ghost use Rattle.std.specs.Prelude.{◌≡◌, ℕ, ◌+◌, ◌-◌, ◌^◌, ◌<◌, ◌≤◌, min};
-ghost use Rattle.division.specs.Costs.{before};
-ghost use Rattle.fit.specs.Rounds.{entry_of, ledger_of, Passing};
-ghost use Rattle.division.proofs.Costs;
 ghost use Rattle.std.proofs.Common.{arith, rules};
+ghost use Rattle.division.specs.Costs.{before};
 ghost use Rattle.division.specs.Tables.{carried_at};
+ghost use Rattle.division.proofs.Costs;
 ghost use Rattle.division.proofs.Rounds.{rounds_lawful};
+ghost use Rattle.fit.specs.Rounds.{entry_of, ledger_of, Passing};
 
 use division::cost::Cost;
 use division::table::Table;
@@ -58,6 +58,7 @@ impl<W: Weighing> Sheet for Rounds<W> {
 
     ghost onward = { Prim.search rules };
 
+    // the law of a round, whatever its tallies are, from the quadrangle inequality of the weighing
     ghost monotone = { λ s i j a b ij jn ab bn won. rounds_lawful (W.Weighing.weight s.weighing) (carried_at s.table s.round) (W.Weighing.held s.weighing) _ _ a b (W.Weighing.quadrangle s.weighing) (omega arith) (omega arith) ab won };
 
     fn precedes(a: &Cost, b: &Cost) -> bool {
