@@ -1,21 +1,19 @@
 -- The caller's promise from the law over runs: its run of three calls is one of those that the law speaks of.
-use Rattle.std.proofs.Common.{◌≡◌, ℕ, zero, suc, ◌+◌, ◌-◌, ◌<◌, ◌≤◌, Bool, true, false, ◌⊎◌, List, [], ◌∷◌, map, length, replicate, Ok, Err, Result, sym, refl, ap, ◌∙◌, subst, inl, inr, arith}
+use Rattle.std.proofs.Common.{◌≡◌, ℕ, zero, suc, ◌+◌, ◌-◌, ◌<◌, ◌≤◌, Bool, true, false, ◌⊎◌, List, [], ◌∷◌, map, length, replicate, Ok, Err, Result, refl, ap, subst, inl, inr, arith}
 use Rattle.refusal.specs.declared.Refusal.{Refusal}
 use Rattle.refusal.specs.Rules.{Broken, NoOther}
 use Rattle.weighing.specs.declared.weighing.Weighing.{Ghosts}
 use Rattle.weighing.specs.Did as weighing
-use Rattle.division.specs.declared.table.Told.{Told}
 use Rattle.division.specs.Divide.{Answered, BestFits}
 use Rattle.division.specs.Divisions.{Divides}
 use Rattle.fit.specs.declared.fit.Fit.{Fit}
-use Rattle.runs.specs.declared.step.Call.{Call}
 use Rattle.runs.specs.declared.step.Call.TheVariants.{Take, Settle, Divide}
 use Rattle.runs.specs.declared.step.Answer.{Answer}
 use Rattle.runs.specs.declared.step.Answer.TheVariants.{Held, Settled, Divided, Weight}
 use Rattle.fit.specs.Calls.{Opens, TakeDid, SettleDid, Long, weighing_of, limit_of}
 use Rattle.fit.specs.Rounds.{SameWeighing}
-use Rattle.runs.specs.Runs.{ByHeld, BySettled, ByDivided, Lists, Did, Event, Reached, opened, called, readings, settled, Asked, SettleMeets, DivideMeets, Law}
-use Rattle.fit_tests.specs.Caller.{Cut, CutDid}
+use Rattle.runs.specs.Runs.{ByHeld, BySettled, ByDivided, Lists, Did, Event, Reached, opened, called, settled, Asked, SettleMeets, DivideMeets, Law}
+use Rattle.fit_tests.specs.Caller.{CutDid}
 
 brought_many : (n : ℕ) → length (replicate n false) ≡ n
 brought_many zero = refl

@@ -1,5 +1,5 @@
 -- From a level to the one with twice its stride: its rows are every second row, and its columns stand behind those of the levels above.
-use Rattle.std.proofs.Common.{◌≡◌, ℕ, ◌+◌, ◌-◌, ◌*◌, ◌/◌, ◌^◌, ◌<◌, ◌≤◌, Bool, true, false, ◌⊎◌, List, length, get_or, set, sym, refl, ap, ◌∙◌, subst, inl, inr, ⊎_elim, mul-le-mul_left, pow-suc, le-div_iff_mul-le, div-le_self, div-mul-le_self, div-one, add-one, arith, get_or-set_other, get_or-set_same, pow_pos, pow_mono}
+use Rattle.std.proofs.Common.{◌≡◌, ℕ, ◌+◌, ◌-◌, ◌*◌, ◌/◌, ◌^◌, ◌<◌, ◌≤◌, List, length, get_or, set, sym, refl, ap, ◌∙◌, subst, ⊎_elim, mul-le-mul_left, pow-suc, le-div_iff_mul-le, div-le_self, div-mul-le_self, div-one, add-one, arith, get_or-set_other, get_or-set_same, pow_pos, pow_mono}
 use native.Mathlib.Nat.{div-div-eq-div-mul}
 use Rattle.std.proofs.lemmas.Bool.{cases_lt}
 use Rattle.search.specs.declared.sheet.Sheet.{Ghosts}
@@ -7,10 +7,10 @@ use Rattle.search.specs.declared.strip.Strip.{Strip}
 use Rattle.search.specs.declared.level.Level.{Level}
 use Rattle.search.specs.Least.{Leftmost}
 use Rattle.search.specs.Search.{Fits, BestInRow, Searched}
-use Rattle.search.specs.Grid.{Grid, Answer, Column, Stack, Holds}
-use Rattle.search.specs.Levels.{Stands, Kept, AllKept, grid_of, level_at, row_of, from, many}
+use Rattle.search.specs.Grid.{Answer, Stack, Holds}
+use Rattle.search.specs.Levels.{Stands, Kept, AllKept, grid_of, level_at, from, many}
 use Rattle.search.specs.Steps.{Read, ReadWithin, Reduced, KeptBeyond, Filled, Started, Lowered, Raised}
-use Rattle.search.proofs.Grid.{Lawful, stack_holds, holds_moved, holds_some, holds_same, answer_same}
+use Rattle.search.proofs.Grid.{stack_holds, holds_moved, holds_some, holds_same, answer_same}
 use Rattle.search.proofs.Least.{leftmost_same, leftmost_unique}
 use Rattle.search.proofs.Reading.{read_more, within_more}
 use Rattle.search.proofs.Scans.{OddRows}

@@ -1,7 +1,6 @@
 -- The reduction: what a grid's answers allow to be thrown away. The three moves of a reduction are `pop`, `push` and `pass`.
-use Rattle.std.proofs.Common.{◌≡◌, ℕ, zero, suc, ◌+◌, ◌-◌, ◌*◌, ◌<◌, ◌≤◌, Bool, true, false, ◌⊎◌, sym, refl, ap, ◌∙◌, subst, inl, inr, ⊎_elim, arith}
-use Rattle.std.proofs.lemmas.Bool.{both_ways, cases_Bool, cases_lt, cases_order}
-use Rattle.search.specs.Least.{Leftmost}
+use Rattle.std.proofs.Common.{◌≡◌, ℕ, ◌+◌, ◌-◌, ◌<◌, ◌≤◌, true, false, sym, ap, ◌∙◌, subst, ⊎_elim, arith}
+use Rattle.std.proofs.lemmas.Bool.{both_ways, cases_Bool, cases_lt}
 use Rattle.search.specs.Grid.{Grid, Answer, Column, Stack, Holds}
 use Rattle.search.proofs.Least.{WeakOrder, leftmost_exists, leftmost_same}
 

@@ -1,8 +1,7 @@
 -- Rising columns: where a column stands among those that a level keeps, and how a level takes them over.
-use Rattle.std.proofs.Common.{◌≡◌, ℕ, zero, suc, ◌+◌, ◌-◌, ◌<◌, ◌≤◌, Bool, true, false, cond, ltb, ◌⊎◌, sym, refl, ap, ◌∙◌, subst, inl, inr, ⊎_elim, arith}
-use Rattle.std.proofs.lemmas.Bool.{both_ways, cond-true, cond-false, lt-ltb, le-ltb, cases_lt, cases_order}
-use Rattle.search.specs.Least.{Leftmost}
-use Rattle.search.specs.Grid.{Grid, Answer, Column, Stack, Holds}
+use Rattle.std.proofs.Common.{◌≡◌, ℕ, zero, suc, ◌+◌, ◌-◌, ◌<◌, ◌≤◌, cond, ltb, ap, subst, ⊎_elim, arith}
+use Rattle.std.proofs.lemmas.Bool.{cond-true, cond-false, lt-ltb, le-ltb, cases_lt}
+use Rattle.search.specs.Grid.{Grid, Stack, Holds}
 
 module _ (st : ℕ → ℕ) (count : ℕ) (up : (j : ℕ) → j + 1 < count → st j < st (j + 1)) where
   rises_by : (d i : ℕ) → i + d + 1 < count → st i < st (i + d + 1)

@@ -1,5 +1,5 @@
 -- The work list as the steps of a search write it.
-use Rattle.std.proofs.Common.{◌≡◌, ℕ, ◌+◌, ◌-◌, ◌*◌, ◌<◌, ◌≤◌, false, List, length, get_or, set, sym, refl, ap, ◌∙◌, subst, arith, get_or-set_other, get_or-set_same}
+use Rattle.std.proofs.Common.{◌≡◌, ℕ, ◌+◌, ◌-◌, ◌<◌, false, List, length, set, refl, ◌∙◌, arith, get_or-set_other, get_or-set_same}
 use Rattle.search.specs.Grid.{Grid, Column, Stack}
 use Rattle.search.specs.Levels.{from}
 use Rattle.search.specs.Steps.{Beside}

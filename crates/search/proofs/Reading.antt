@@ -1,7 +1,6 @@
 -- How reads add up.
-use Rattle.std.proofs.Common.{◌≡◌, ℕ, ◌+◌, ◌-◌, ◌^◌, ◌<◌, ◌≤◌, min, Bool, sym, refl, ap, ◌∙◌, subst, arith}
+use Rattle.std.proofs.Common.{ℕ, ◌+◌, ◌-◌, ◌^◌, ◌≤◌, refl, ◌∙◌, arith}
 use Rattle.search.specs.declared.sheet.Sheet.{Ghosts}
-use Rattle.search.specs.Reading.{Reads, Place}
 use Rattle.search.specs.Steps.{Read, ReadWithin, HasPlace}
 
 module _ {S E : Type 0} (m : Ghosts S E) where

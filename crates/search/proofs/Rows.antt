@@ -1,5 +1,5 @@
 -- The places of a level's rows: row i of a level of stride t stands at place (i + 1) * t - 1 of the strip.
-use Rattle.std.proofs.Common.{◌≡◌, ℕ, ◌+◌, ◌-◌, ◌*◌, ◌/◌, ◌^◌, ◌<◌, ◌≤◌, ◌⊎◌, List, get_or, set, sym, refl, ap, ◌∙◌, subst, ⊎_elim, mul-le-mul_right, mul_assoc, mul_comm, add-mul, mul-lt-mul_of_pos_right, one-mul, arith, get_or-set_other}
+use Rattle.std.proofs.Common.{◌≡◌, ℕ, ◌+◌, ◌-◌, ◌*◌, ◌<◌, ◌≤◌, List, get_or, set, ap, ◌∙◌, ⊎_elim, mul-le-mul_right, mul_assoc, mul_comm, add-mul, mul-lt-mul_of_pos_right, one-mul, arith, get_or-set_other}
 use Rattle.std.proofs.lemmas.Bool.{cases_order}
 
 pub times_pos : (i stride : ℕ) → 0 < stride → 0 < (i + 1) * stride

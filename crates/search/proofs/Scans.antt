@@ -1,8 +1,8 @@
 -- The rows between two rows whose answers are known: a scan from the one to the other finds theirs.
-use Rattle.std.proofs.Common.{◌≡◌, ℕ, ◌+◌, ◌-◌, ◌*◌, ◌/◌, ◌<◌, ◌≤◌, Bool, true, false, ◌⊎◌, List, length, get_or, set, sym, refl, ap, ◌∙◌, subst, inl, inr, ⊎_elim, arith, get_or-set_other, get_or-set_same}
-use Rattle.std.proofs.lemmas.Bool.{both_ways, cases_Bool, cases_lt, cases_order}
+use Rattle.std.proofs.Common.{◌≡◌, ℕ, ◌+◌, ◌-◌, ◌*◌, ◌/◌, ◌<◌, ◌≤◌, true, false, List, length, get_or, set, sym, ap, ◌∙◌, subst, ⊎_elim, arith, get_or-set_other, get_or-set_same}
+use Rattle.std.proofs.lemmas.Bool.{cases_lt}
 use Rattle.search.specs.Least.{Leftmost}
-use Rattle.search.specs.Grid.{Grid, Answer, Column, Stack, Holds}
+use Rattle.search.specs.Grid.{Grid, Answer, Holds}
 use Rattle.search.proofs.Least.{leftmost_unique}
 use Rattle.search.proofs.Grid.{Lawful, some_answer, answers_rise}
 use Rattle.search.proofs.Kept.{rises, not_falling, place_le, place_lt}

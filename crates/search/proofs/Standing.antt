@@ -1,15 +1,14 @@
 -- A level of a lawful sheet is lawful, and reading the sheet leaves it as it is.
-use Rattle.std.proofs.Common.{◌≡◌, ℕ, ◌+◌, ◌-◌, ◌*◌, ◌/◌, ◌^◌, ◌<◌, ◌≤◌, Bool, true, false, List, length, get_or, set, sym, refl, ap, ◌∙◌, subst, ⊎_elim, arith, get_or-set_other, get_or-set_same}
+use Rattle.std.proofs.Common.{◌≡◌, ℕ, ◌+◌, ◌-◌, ◌*◌, ◌<◌, ◌≤◌, Bool, true, List, length, sym, ap, ◌∙◌, arith}
 use Rattle.search.specs.declared.sheet.Sheet.{Ghosts}
 use Rattle.search.specs.declared.strip.Strip.{Strip}
 use Rattle.search.specs.declared.level.Level.{Level}
-use Rattle.search.specs.Reading.{Place}
 use Rattle.search.specs.Search.{Fits}
-use Rattle.search.specs.Grid.{Grid, Answer, Column, Stack, Holds}
+use Rattle.search.specs.Grid.{Column, Stack}
 use Rattle.search.specs.Levels.{Stands, grid_of, row_of, from}
-use Rattle.search.specs.Steps.{HasPlace, Read, Beside, Driven}
+use Rattle.search.specs.Steps.{HasPlace, Read}
 use Rattle.search.proofs.Least.{WeakOrder}
-use Rattle.search.proofs.Grid.{Lawful, Agree, stack_same, holds_same, answer_same, top_column}
+use Rattle.search.proofs.Grid.{Lawful, Agree, stack_same, top_column}
 use Rattle.search.proofs.Rows.{times_le, times_pos, row_in}
 
 -- the laws of the trait, as a proof has them

@@ -1,5 +1,5 @@
 -- Grids: the rows and columns that one level of the search looks at, and the columns that it keeps of them.
-use Rattle.std.specs.Prelude.{◌≡◌, ℕ, ◌+◌, ◌*◌, ◌<◌, ◌≤◌, Bool, true, false}
+use Rattle.std.specs.Prelude.{◌≡◌, ℕ, ◌+◌, ◌<◌, ◌≤◌, Bool, false}
 use Rattle.search.specs.Least.{Leftmost}
 
 -- `rows` rows of entries, of which `columns` columns from `first` on are looked at

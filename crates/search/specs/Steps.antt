@@ -6,7 +6,7 @@ use Rattle.search.specs.declared.level.Level.{Level}
 use Rattle.search.specs.Reading.{Place, Reads}
 use Rattle.search.specs.Least.{Leftmost}
 use Rattle.search.specs.Search.{BestInRow}
-use Rattle.search.specs.Grid.{Grid, Answer, Stack}
+use Rattle.search.specs.Grid.{Answer, Stack}
 use Rattle.search.specs.Levels.{from, grid_of, row_of, level_at, Kept, AllKept}
 
 abbrev pub HasPlace : {S E : Type 0} → Ghosts S E → S → ℕ → ℕ → Type 0

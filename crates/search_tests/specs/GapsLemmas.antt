@@ -1,6 +1,6 @@
 -- Squared gaps make a totally monotone sheet, since squaring keeps the order.
 use Rattle.std.proofs.Common.{⊎_elim, arith, mul-le-mul_left, mul-le-mul_right, le-div_iff_mul-le, div-mul-le_self}
-use Rattle.std.specs.Prelude.{ℕ, ◌+◌, ◌-◌, ◌*◌, ◌/◌, ◌<◌, ◌≤◌}
+use Rattle.std.specs.Prelude.{ℕ, ◌*◌, ◌/◌, ◌<◌, ◌≤◌}
 use Rattle.std.proofs.Math.Nat.{mul-lt-mul_of_pos_left}
 use Rattle.std.proofs.lemmas.Bool.{cases_lt}
 use Rattle.search_tests.specs.Gaps.{gap}

@@ -1,4 +1,4 @@
-use Rattle.std.proofs.Common.{◌≡◌, ℕ, ◌+◌, ◌-◌, ◌*◌, ◌^◌, ◌<◌, ◌≤◌, length, sym, refl, ap, ◌∙◌, subst, arith, pow_pos}
+use Rattle.std.proofs.Common.{◌≡◌, ℕ, ◌-◌, ◌*◌, ◌^◌, ◌≤◌, length, refl, arith, pow_pos}
 use Rattle.search.specs.Search.{Fits}
 use Rattle.search.proofs.Standing.{fits_there}
 use Rattle.search.proofs.Depths.{stands_at, kept_there, searched}

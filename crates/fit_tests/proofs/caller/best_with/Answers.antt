@@ -1,6 +1,5 @@
-use Rattle.std.proofs.Common.{length}
 use Rattle.runs.specs.Runs.{Lists}
-use Rattle.fit_tests.proofs.Called.{take_refused, settle_refused, divided}
+use Rattle.fit_tests.proofs.Called.{divided}
 use Rattle.fit_tests.proofs.caller.best_with.Goals as goal
 
 pub returns : goal.returns

@@ -1,4 +1,4 @@
-use Rattle.std.proofs.Common.{◌≡◌, ℕ, ◌+◌, ◌-◌, ◌*◌, ◌/◌, ◌<◌, ◌≤◌, length, sym, ap, subst, arith}
+use Rattle.std.proofs.Common.{◌≡◌, ℕ, ◌+◌, ◌-◌, ◌*◌, ◌/◌, ◌<◌, ◌≤◌, length, sym, subst, arith}
 use Rattle.search.specs.Levels.{Stands, level_at, from, many, grid_of}
 use Rattle.search.specs.Grid.{Holds}
 use Rattle.search.proofs.Standing.{Laws}

@@ -1,6 +1,6 @@
-use Rattle.std.proofs.Common.{◌≡◌, ℕ, ◌+◌, ◌-◌, ◌*◌, ◌/◌, ◌^◌, ◌<◌, ◌≤◌, length, sym, refl, ap, ◌∙◌, subst, div-lt_iff_lt-mul, arith, pow_pos}
+use Rattle.std.proofs.Common.{◌≡◌, ℕ, ◌*◌, ◌/◌, ◌^◌, ◌<◌, ◌≤◌, length, sym, refl, ap, ◌∙◌, subst, div-lt_iff_lt-mul, arith, pow_pos}
 use native.Mathlib.Nat.{div-div-eq-div-mul}
-use Rattle.search.specs.Levels.{Kept, Stands, level_at, many}
+use Rattle.search.specs.Levels.{Kept, level_at, many}
 use Rattle.search.specs.Steps.{Filled}
 use Rattle.search.proofs.Reading.{read_none}
 use Rattle.search.proofs.Depths.{Fillable, Answered, stands_at, fillable, level_done, all_answered, odd_rows, pow_half}

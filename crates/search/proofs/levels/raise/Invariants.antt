@@ -1,4 +1,4 @@
-use Rattle.std.proofs.Common.{◌≡◌, ℕ, ◌+◌, ◌-◌, ◌*◌, ◌/◌, ◌^◌, ◌<◌, ◌≤◌, get_or}
+use Rattle.std.proofs.Common.{◌≡◌, ℕ, ◌*◌, ◌/◌, ◌^◌, ◌<◌, ◌≤◌, get_or}
 use Rattle.search.specs.Levels.{AllKept, grid_of, level_at}
 use Rattle.search.specs.Steps.{ReadWithin}
 use Rattle.search.proofs.Scans.{OddRows}

@@ -1,4 +1,4 @@
-use Rattle.std.proofs.Common.{◌≡◌, ℕ, ◌+◌, ◌*◌, ◌/◌, ◌<◌, ◌≤◌, length, ap, subst, div-one, arith}
+use Rattle.std.proofs.Common.{◌≡◌, ◌*◌, ◌/◌, ◌<◌, length, ap, subst, div-one, arith}
 use Rattle.search.specs.Steps.{ReadWithin}
 use Rattle.search.proofs.Standing.{Laws}
 use Rattle.search.proofs.Depths.{stands_at, made}

@@ -1,4 +1,4 @@
-use Rattle.std.proofs.Common.{◌≡◌, ap, ◌∙◌}
+use Rattle.std.proofs.Common.{ap, ◌∙◌}
 use Rattle.search.proofs.Reading.{read_more}
 use Rattle.search.proofs.reduce.beats.Goals as goal
 

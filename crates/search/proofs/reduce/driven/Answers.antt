@@ -1,6 +1,6 @@
-use Rattle.std.proofs.Common.{◌≡◌, ℕ, ◌+◌, ◌-◌, ◌*◌, ◌<◌, ◌≤◌, sym, ap, ◌∙◌, subst, arith}
+use Rattle.std.proofs.Common.{◌≡◌, ℕ, ◌+◌, ◌-◌, ◌*◌, ◌<◌, ◌≤◌, sym, subst, arith}
 use Rattle.search.specs.Grid.{Column}
-use Rattle.search.specs.Levels.{grid_of, from, row_of}
+use Rattle.search.specs.Levels.{grid_of, from}
 use Rattle.search.specs.Steps.{Read, HasPlace}
 use Rattle.search.proofs.Reading.{read_more, place_there}
 use Rattle.search.proofs.Grid.{pop_top, top_column}

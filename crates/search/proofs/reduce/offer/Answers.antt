@@ -1,6 +1,6 @@
-use Rattle.std.proofs.Common.{◌≡◌, ℕ, ◌+◌, ◌-◌, ◌*◌, ◌<◌, ◌≤◌, length, sym, refl, ap, ◌∙◌, subst, arith}
-use Rattle.search.specs.Levels.{grid_of, from}
-use Rattle.search.proofs.Grid.{push, pass}
+use Rattle.std.proofs.Common.{◌+◌, ◌*◌, ◌<◌, ◌≤◌, length, arith}
+use Rattle.search.specs.Levels.{from}
+use Rattle.search.proofs.Grid.{pass}
 use Rattle.search.proofs.Standing.{Laws, level_lawful}
 use Rattle.search.proofs.Lists.{pushed, set_beside, beside_none}
 use Rattle.search.proofs.reduce.offer.Given as given

@@ -1,5 +1,4 @@
 use Rattle.std.proofs.Common.{◌≡◌, ℕ, ◌+◌, ◌*◌, ◌<◌, ◌≤◌, get_or}
-use Rattle.search.specs.Grid.{Answer}
 use Rattle.search.specs.Levels.{grid_of, from}
 use Rattle.search.specs.Steps.{Read}
 use Rattle.search.proofs.Scans.{OddRows, EvenRows, Starts}

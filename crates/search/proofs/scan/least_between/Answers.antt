@@ -1,7 +1,7 @@
-use Rattle.std.proofs.Common.{◌≡◌, ℕ, ◌+◌, ◌-◌, ◌*◌, ◌<◌, ◌≤◌, get_or, sym, refl, ap, ◌∙◌, subst, arith}
+use Rattle.std.proofs.Common.{◌≡◌, ℕ, ◌+◌, ◌-◌, ◌<◌, ◌≤◌, sym, ◌∙◌, subst, arith}
 use Rattle.search.specs.Least.{Leftmost}
 use Rattle.search.specs.Levels.{from}
-use Rattle.search.specs.Steps.{Read, HasPlace}
+use Rattle.search.specs.Steps.{Read}
 use Rattle.search.proofs.Least.{WeakOrder, leftmost_of_one, leftmost_same, scan_takes, scan_keeps}
 use Rattle.search.proofs.Reading.{read_none, read_more, place_there}
 use Rattle.search.proofs.scan.least_between.Given as given

@@ -1,7 +1,6 @@
 -- The running sums give the weight, and nothing overflows on the way.
 use Rattle.std.proofs.Common.{◌≡◌, ◌+◌, ◌-◌, ◌*◌, ap, arith}
 use Rattle.rising.specs.Held.{readings}
-use Rattle.rising.specs.Sums.{sum_first}
 use Rattle.rising.specs.Ceilings.{ceiling_weight}
 use Rattle.rising.specs.HeldLemmas.{held_few, held_rising, times_reading}
 use Rattle.rising.specs.CeilingsLemmas.{ceiling_by_sums}
