@@ -3,7 +3,6 @@ use Rattle.std.specs.Prelude.{◌≡◌, ℕ, ◌≤◌, List, ◌++◌, take, O
 use Rattle.refusal.specs.declared.Refusal.{Refusal}
 use Rattle.refusal.specs.Numbers.{number}
 use Rattle.weighing.specs.declared.weighing.Weighing.{Ghosts}
-use Rattle.division.specs.declared.table.Told.{Told}
 use Rattle.console.specs.Numerals.{NumberOf}
 use Rattle.console.specs.Grammar.{Spoken, taking, dropping, wiping, settling, dividing, exacting}
 use Rattle.reply.specs.declared.Kind as kinds

@@ -6,12 +6,12 @@ use Rattle.session.proofs.whole.answer_lines.Goals as goal
 pub loop-line-init : goal.loop-line-init
 loop-line-init g c = (refl, begun)
 
-pub loop-line-preserved-in-Continue· : goal.loop-line-preserved-in-Continue·
-loop-line-preserved-in-Continue· g c =
+pub loop-line-preserved-in-Continue-1 : goal.loop-line-preserved-in-Continue-1
+loop-line-preserved-in-Continue-1 g c =
     let same = c.loop-line.invariant.0 in
     let read = c.in-Some.ensures in (
       read.input ∙ same,
-      next_answered g.W.Weighing g.L.Listener.hears _ _ _ _ same read.place read.answer c.in-Ok.is c.loop-line.invariant.1 c.perform-reply.ensures.answer c.in-ok-hear.ensures.heard,
+      next_answered g.W.Weighing g.L.Listener.hears _ _ _ _ same read.place read.answer c.in-Ok.is c.loop-line.invariant.1 c.perform-reply.ensures.answer c.in_ok-hear-in-Ok.ensures.heard,
     )
 
 pub loop-line-preserved : goal.loop-line-preserved
@@ -19,5 +19,5 @@ loop-line-preserved g c =
     let same = c.loop-line.invariant.0 in
     let read = c.in-Some.ensures in (
       read.input ∙ same,
-      next_refused g.W.Weighing g.L.Listener.hears _ _ _ _ same read.place read.answer c.in-Err.is c.loop-line.invariant.1 c.refused-reply.ensures.value c.in-ok-hear-2.ensures.heard,
+      next_refused g.W.Weighing g.L.Listener.hears _ _ _ _ same read.place read.answer c.in-Err.is c.loop-line.invariant.1 c.refused-reply.ensures.value c.in_ok-hear-in-Err.ensures.heard,
     )

@@ -15,5 +15,5 @@ returns-in-Middle g c =
 pub returns-in-Even : goal.returns-in-Even
 returns-in-Even g c =
     let new = c.new-even.ensures.value in
-    let nominal = c.value-of-length in
+    let nominal = c.value_of-length in
     record { heard = made_as c.talk-in-Even.result (λ whole. over_said g.L.Listener.hears c.args.reader.now.input.now c.args.reader.now.place c.args.listener.now _ c.in-Even.is (c.new-even.result, nominal.result, nominal.ensures.value, new.1, new.0, new.2, whole)) c.talk-in-Even.ensures.heard }
