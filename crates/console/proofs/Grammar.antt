@@ -1,11 +1,32 @@
--- That a first line opens one thing at most, and the two words before and behind a space.
+-- That a line says one thing at most and a first line opens one thing at most, and the two words before and behind a space.
 use Rattle.std.proofs.Common.{◌≡◌, ℕ, suc, ◌+◌, ◌<◌, ◌≤◌, cond, eqb, List, ◌∷◌, ◌++◌, length, get_or, drop, codes, sym, ap, ◌∙◌, subst, arith}
 use Rattle.std.proofs.lemmas.List.Prefix.{front_rest}
 use Rattle.std.proofs.lemmas.List.{take_rest, drop_more, get_or-drop}
 use Rattle.console.specs.Numerals.{Numeral}
-use Rattle.console.specs.Grammar.{Opened, for_ceiling, for_middle, for_even, Opens}
+use Rattle.console.specs.Grammar.{Spoken, taking, dropping, wiping, settling, dividing, exacting, Says, Opened, for_ceiling, for_middle, for_even, Opens}
 use Rattle.console.specs.Lines.{before}
 use Rattle.console.proofs.Lines.{rest_of, rest_length, before_front, before_fits, stop_follows, before_stop, behind_stop}
+
+-- what a line can say at most: no two words have the same third byte
+could_say : List ℕ → Spoken
+could_say line =
+    cond (eqb (get_or line 2 0) 107) (taking (drop 5 line))
+    (cond (eqb (get_or line 2 0) 111) dropping
+    (cond (eqb (get_or line 2 0) 112) wiping
+    (cond (eqb (get_or line 2 0) 116) settling
+    (cond (eqb (get_or line 2 0) 118) (dividing (drop 7 line)) (exacting (drop 6 line))))))
+
+says_that : (line : List ℕ) (said : Spoken) → Says line said → could_say line ≡ said
+unfolding could_say
+says_that line (taking digits) is = ap could_say is.0
+says_that line dropping is = ap could_say is
+says_that line wiping is = ap could_say is
+says_that line settling is = ap could_say is
+says_that line (dividing digits) is = ap could_say is.0
+says_that line (exacting digits) is = ap could_say is.0
+
+pub says_once : (line : List ℕ) (said other : Spoken) → Says line said → Says line other → other ≡ said
+says_once line said other one two = sym (says_that line other two) ∙ says_that line said one
 
 -- the first word ends before the first space
 could_be_even : List ℕ → Opened

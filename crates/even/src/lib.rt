@@ -60,7 +60,7 @@ impl Weighing for Even {
 
     ghost count = { λ s. s.weighs.told };
 
-    ghost few = { first_of (Prim.search rules, Prim.grind (arith, Self.row.coded.inj)) };
+    ghost few = { Prim.search rules };
 
     ghost bounded = { λ w a b h1 h2.
         let h : b ≤ w.n = h2 in
@@ -69,15 +69,15 @@ impl Weighing for Even {
         let high : w.nominal ≤ 512 = Prim.grind arith in
         rw (cond-true {A = ℕ} _ 261121 0 fits) (even_bounded w.nominal a b h1 (omega arith) low high) };
 
-    ghost levelled = { first_of (Prim.search rules, Prim.grind (arith, Self.row.coded.inj)) };
+    ghost levelled = { Prim.search rules };
 
-    ghost topped = { first_of (Prim.search rules, Prim.grind (arith, Self.row.coded.inj)) };
+    ghost topped = { Prim.search rules };
 
-    ghost counted = { first_of (Prim.search rules, Prim.grind (arith, Self.row.coded.inj)) };
+    ghost counted = { Prim.search rules };
 
-    ghost known = { first_of (Prim.search rules, Prim.grind (arith, Self.row.coded.inj)) };
+    ghost known = { Prim.search rules };
 
-    ghost full = { first_of (Prim.search rules, Prim.grind (arith, Self.row.coded.inj)) };
+    ghost full = { Prim.search rules };
 
     ghost quadrangle = { λ w a b c d h1 h2 h3 h4. even_quadrangle w.nominal a b c d h1 h2 h3 };
 

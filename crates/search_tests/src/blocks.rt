@@ -4,7 +4,7 @@ ghost use Rattle.search_tests.specs.Gaps.{gap, gap_at, within};
 ghost use Rattle.search_tests.specs.declared.blocks.Gap.{Gap};
 ghost use Rattle.std.proofs.lemmas.Bool.{ltb-true, lt-ltb};
 ghost use Rattle.search_tests.specs.GapsLemmas.{nearer_stays_nearer, later_block};
-ghost use Rattle.std.proofs.Common.{rules, arith};
+ghost use Rattle.std.proofs.Common.{rules};
 
 use refusal::Refusal;
 use search::sheet::Sheet;
@@ -88,21 +88,21 @@ impl Sheet for Blocks {
 
     ghost passes = { λ s t. s.ledger ≤ t.ledger };
 
-    ghost irreflexive = { first_of (Prim.search rules, Prim.grind (arith, Self.row.coded.inj)) };
+    ghost irreflexive = { Prim.search rules };
 
-    ghost transitive = { first_of (Prim.search rules, Prim.grind (arith, Self.row.coded.inj)) };
+    ghost transitive = { Prim.search rules };
 
-    ghost weak = { first_of (Prim.search rules, Prim.grind (arith, Self.row.coded.inj)) };
+    ghost weak = { Prim.search rules };
 
-    ghost low = { first_of (Prim.search rules, Prim.grind (arith, Self.row.coded.inj)) };
+    ghost low = { Prim.search rules };
 
-    ghost narrow = { first_of (Prim.search rules, Prim.grind (arith, Self.row.coded.inj)) };
+    ghost narrow = { Prim.search rules };
 
-    ghost capped = { first_of (Prim.search rules, Prim.grind (arith, Self.row.coded.inj)) };
+    ghost capped = { Prim.search rules };
 
-    ghost stays = { first_of (Prim.search rules, Prim.grind (arith, Self.row.coded.inj)) };
+    ghost stays = { Prim.search rules };
 
-    ghost onward = { first_of (Prim.search rules, Prim.grind (arith, Self.row.coded.inj)) };
+    ghost onward = { Prim.search rules };
 
     ghost monotone = { λ s i j a b p q t u h. lt-ltb _ _ (nearer_stays_nearer (i / s.shape.tall) (j / s.shape.tall) (a / s.shape.wide) (b / s.shape.wide) (later_block i j s.shape.tall p s.thick) (later_block a b s.shape.wide t s.broad) (ltb-true _ _ h)) };
 

@@ -1,7 +1,7 @@
 //! A weighing that the crate of weighings does not know: costs of a span by its length, from a table.
 ghost use Rattle.std.specs.Prelude.{◌≡◌, ◌-◌, ◌^◌, ◌≤◌, min};
 ghost use Rattle.weighing_tests.specs.Stairs.{stairs_weight, stairs_verdict};
-ghost use Rattle.std.proofs.Common.{rules, arith};
+ghost use Rattle.std.proofs.Common.{rules};
 
 use refusal::Refusal;
 use weighing::weighing::Weighing;
@@ -47,21 +47,21 @@ impl Weighing for Stairs {
 
     ghost count = { λ s. s.weighs };
 
-    ghost few = { first_of (Prim.search rules, Prim.grind (arith, Self.row.coded.inj)) };
+    ghost few = { Prim.search rules };
 
-    ghost bounded = { first_of (Prim.search rules, Prim.grind (arith, Self.row.coded.inj)) };
+    ghost bounded = { Prim.search rules };
 
-    ghost levelled = { first_of (Prim.search rules, Prim.grind (arith, Self.row.coded.inj)) };
+    ghost levelled = { Prim.search rules };
 
-    ghost topped = { first_of (Prim.search rules, Prim.grind (arith, Self.row.coded.inj)) };
+    ghost topped = { Prim.search rules };
 
-    ghost counted = { first_of (Prim.search rules, Prim.grind (arith, Self.row.coded.inj)) };
+    ghost counted = { Prim.search rules };
 
-    ghost known = { first_of (Prim.search rules, Prim.grind (arith, Self.row.coded.inj)) };
+    ghost known = { Prim.search rules };
 
-    ghost full = { first_of (Prim.search rules, Prim.grind (arith, Self.row.coded.inj)) };
+    ghost full = { Prim.search rules };
 
-    ghost quadrangle = { first_of (Prim.search rules, Prim.grind (arith, Self.row.coded.inj)) };
+    ghost quadrangle = { Prim.search rules };
 
     fn verdict(&self, reading: u32) -> Option<Refusal> {
         if self.n < MOST_STEPS {
