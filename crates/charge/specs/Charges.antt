@@ -1,12 +1,12 @@
 -- The charge: each span of another weighing costs a fixed sum more.
-use Rattle.std.specs.Prelude.{◌≡◌, Bool, false, cond, ◌&&◌, leb, ◌+◌, ◌-◌, ◌^◌}
+use Rattle.std.specs.Prelude.{◌≡◌, Bool, false, cond, ◌&&◌, nat_le, ◌+◌, ◌-◌, ◌^◌}
 use Rattle.weighing.specs.declared.weighing.Weighing.{Ghosts}
 use Rattle.charge.specs.declared.Charge.{Charge}
 
 module _ {W : Type 0} (m : Ghosts W) where
   -- whether the charge is at most 2^28 and the top under it at most 2^59 - 1; if not, it is a misfit
   abbrev pub charge_fits : Charge W → Bool
-  charge_fits s = leb s.charge (2 ^ 28) && leb (m.top s.inner + s.charge) (2 ^ 59 - 1)
+  charge_fits s = nat_le s.charge (2 ^ 28) && nat_le (m.top s.inner + s.charge) (2 ^ 59 - 1)
 
   -- the meaning of a charge; of a misfit n and top are 0, and the verdict is 4
   abbrev pub charged : Ghosts (Charge W)

@@ -1,11 +1,42 @@
--- That a line says one thing at most and a first line opens one thing at most, and the two words before and behind a space.
-use Rattle.std.proofs.Common.{◌≡◌, ℕ, suc, ◌+◌, ◌<◌, ◌≤◌, cond, eqb, List, ◌∷◌, ◌++◌, length, get_or, drop, codes, sym, ap, ◌∙◌, subst, arith}
-use Rattle.std.proofs.lemmas.List.Prefix.{front_rest}
-use Rattle.std.proofs.lemmas.List.{take_rest, drop_more, get_or-drop}
+-- Lines and the words that they begin with, and that a line says one thing at most.
+use Rattle.std.proofs.Common.{◌≡◌, ℕ, zero, suc, ◌+◌, ◌<◌, ◌≤◌, Bool, true, cond, ◌&&◌, eqb, leb, List, [], ◌∷◌, ◌++◌, length, get_or, drop, codes, sym, ap, ◌∙◌, subst, add-zero, arith}
+use Rattle.std.proofs.lemmas.List.Prefix.{front_from_reads, front_rest}
+use Rattle.std.proofs.lemmas.List.{take_rest, drop_all, drop_more, get_or-drop, append-nil}
+use Rattle.std.proofs.lemmas.Bool.{and_parts, eqb-true, leb-true}
 use Rattle.console.specs.Numerals.{Numeral}
 use Rattle.console.specs.Grammar.{Spoken, taking, dropping, wiping, settling, dividing, exacting, Says, Opened, for_ceiling, for_middle, for_even, Opens}
 use Rattle.console.specs.Lines.{before}
 use Rattle.console.proofs.Lines.{rest_of, rest_length, before_front, before_fits, stop_follows, before_stop, behind_stop}
+
+-- the bytes of the word stand in the line from the place on
+abbrev pub stands : List ℕ → ℕ → List ℕ → Bool
+stands line place [] = true
+stands line place (byte ∷ word) = eqb (get_or line place 0) byte && stands line (suc place) word
+
+abbrev pub begins : List ℕ → List ℕ → Bool
+begins word line = leb (length word) (length line) && stands line 0 word
+
+stands_reads : (line word : List ℕ) (place : ℕ) → stands line place word ≡ true → (i : ℕ) → i < length word → get_or line (place + i) 0 ≡ get_or word i 0
+stands_reads line [] place there i within = absurd (omega arith)
+stands_reads line (byte ∷ word) place there zero within = ap (λ j. get_or line j 0) (add-zero place) ∙ eqb-true _ _ (and_parts _ _ there).0
+stands_reads line (byte ∷ word) place there (suc i) within =
+    let on : place + suc i ≡ suc place + i = omega arith in
+    ap (λ j. get_or line j 0) on ∙ stands_reads line word (suc place) (and_parts _ _ there).1 i (omega arith)
+
+begins_with : (word line : List ℕ) → begins word line ≡ true → line ≡ word ++ drop (length word) line
+begins_with word line there =
+    let both = and_parts _ _ there in
+    front_from_reads 0 line word (leb-true _ _ both.0) (λ i within. let at : 0 + i ≡ i = omega arith in ap (λ j. get_or line j 0) (sym at) ∙ stands_reads line word 0 both.1 i within)
+
+pub begins_rest : (word line : List ℕ) → begins word line ≡ true → line ≡ word ++ rest_of (length word) line
+begins_rest word line there = begins_with word line there ∙ ap (λ rest. word ++ rest) (sym (take_rest line (length word)))
+
+pub begins_whole : (word line : List ℕ) → begins word line ≡ true → length line ≡ length word → line ≡ word
+begins_whole word line there long = begins_with word line there ∙ ap (λ rest. word ++ rest) (drop_all (length word) line (omega arith)) ∙ append-nil word
+
+-- behind the word stands the number, if any does
+pub rest_numeral : (word line digits : List ℕ) → line ≡ word ++ digits → Numeral digits → Numeral (rest_of (length word) line)
+rest_numeral word line digits is = subst Numeral (sym (take_rest line (length word) ∙ front_rest line word digits is))
 
 -- what a line can say at most: no two words have the same third byte
 could_say : List ℕ → Spoken

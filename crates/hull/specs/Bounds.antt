@@ -41,3 +41,11 @@ small_difference_fits a b h g = omega (arith, ints)
 
 pub product_fits : (a b c d : ℤ) → Coordinate a → Coordinate b → Coordinate c → Coordinate d → FitsSigned w64 ((a -ℤ b) *ℤ (c -ℤ d))
 product_fits a b c d ha hb hc hd = small_fits ((a -ℤ b) *ℤ (c -ℤ d)) (product_small a b c d ha hb hc hd)
+
+pub sum_fits : (a b c d e f g h : ℤ) → Coordinate a → Coordinate b → Coordinate c → Coordinate d → Coordinate e → Coordinate f → Coordinate g → Coordinate h → FitsSigned w64 ((a -ℤ b) *ℤ (c -ℤ d) +ℤ (e -ℤ f) *ℤ (g -ℤ h))
+sum_fits a b c d e f g h ha hb hc hd he hf hg hh =
+    small_sum_fits ((a -ℤ b) *ℤ (c -ℤ d)) ((e -ℤ f) *ℤ (g -ℤ h)) (product_small a b c d ha hb hc hd) (product_small e f g h he hf hg hh)
+
+pub twist_fits : (a b c d e f g h : ℤ) → Coordinate a → Coordinate b → Coordinate c → Coordinate d → Coordinate e → Coordinate f → Coordinate g → Coordinate h → FitsSigned w64 ((a -ℤ b) *ℤ (c -ℤ d) -ℤ (e -ℤ f) *ℤ (g -ℤ h))
+twist_fits a b c d e f g h ha hb hc hd he hf hg hh =
+    small_difference_fits ((a -ℤ b) *ℤ (c -ℤ d)) ((e -ℤ f) *ℤ (g -ℤ h)) (product_small a b c d ha hb hc hd) (product_small e f g h he hf hg hh)
