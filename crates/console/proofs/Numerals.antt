@@ -1,7 +1,7 @@
 -- Digits read from the left come to the value that each has by its place; from the toolchain's laws of numerals.
 use Rattle.std.proofs.Common.{◌≡◌, ℕ, ◌+◌, ◌-◌, ◌*◌, ◌^◌, ◌<◌, ◌≤◌, List, length, get_or, take, decimal, sym, ap, ◌∙◌, pow-suc, add-one, arith, rules}
 use Rattle.std.specs.Str.Parse as std
-use Rattle.std.specs.Char.{digit_value as digitValue}
+use Rattle.std.specs.Char.{digit_value as char_digit_value}
 use Rattle.std.proofs.lemmas.Fmt.{decimal-digits_value}
 use Rattle.std.proofs.lemmas.Int.Digits.{digits_value_more}
 use Rattle.std.proofs.lemmas.List.{take_all}
@@ -12,7 +12,7 @@ use Rattle.console.specs.Numerals.{Digits, Numeral, value}
 numerals : IsNumeralModel Digits value
 numerals = numerals_by_weight Digits tells_by_index value (search rules)
 
-digit_value : (byte : ℕ) → 48 ≤ byte → byte ≤ 57 → digitValue byte ≡ byte - 48
+digit_value : (byte : ℕ) → 48 ≤ byte → byte ≤ 57 → char_digit_value byte ≡ byte - 48
 digit_value byte low high = cond-false _ _ _ (le-ltb byte 48 low) ∙ cond-true _ _ _ (lt-ltb byte 58 (omega arith))
 
 power_grows : (v d i : ℕ) → v < 10 ^ i → d < 10 → v * 10 + d < 10 ^ (i + 1)

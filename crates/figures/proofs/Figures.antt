@@ -1,7 +1,7 @@
 -- The figures hold: a case has a test that is computed, a test that passes is sound, and the test of every case passes.
 use Rattle.std.proofs.Common.{◌≡◌, ℕ, zero, suc, pred, ◌<◌, Bool, true, false, cond, not, ◌&&◌, T, eqb, ltb, leb, List, [], ◌∷◌, length, get_or, ℤ, pos, negsuc, ◌≤ℤ◌, ◌<ℤ◌, sym, refl, subst, arith}
 use lib.Signed.{le_z, lt_z, le_z_yes, lt_z_yes}
-use Rattle.std.specs.List.{AllByRecursion as All}
+use Rattle.std.specs.List.{AllByRecursion}
 use Rattle.std.specs.Str.{bytes_eq}
 use Rattle.std.proofs.lemmas.Slice.Eq.{bytes_eq-Decides}
 use Rattle.std.proofs.lemmas.Bool.{and_parts, eqb-true, leb-true, ltb-true, lt-ltb, not-true, both_ways}
@@ -196,7 +196,7 @@ abbrev check_all : List Case → Bool
 check_all [] = true
 check_all (c ∷ cs) = check c && check_all cs
 
-check_all_sound : (cs : List Case) → check_all cs ≡ true → All Holds cs
+check_all_sound : (cs : List Case) → check_all cs ≡ true → AllByRecursion Holds cs
 check_all_sound [] t = tt
 check_all_sound (c ∷ cs) t =
     let parts = and_parts (check c) (check_all cs) t in

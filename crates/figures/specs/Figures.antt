@@ -1,7 +1,7 @@
 -- Figures that were worked out by hand: cases of an exact question, of a divide and of a search for the farthest corners, each
 -- with its answer, and what it means that the answer is right.
 use Rattle.std.specs.Prelude.{◌≡◌, ℕ, ◌≤◌, List, [], ◌∷◌, length, pos}
-use Rattle.std.specs.List.{AllByRecursion as All}
+use Rattle.std.specs.List.{AllByRecursion}
 use Rattle.weighing.specs.declared.weighing.Weighing.{Ghosts}
 use Rattle.charge.specs.declared.Charge.{Charge}
 use Rattle.pair.specs.declared.Pair.{Pair}
@@ -115,4 +115,4 @@ cases =
 
 -- every figure is right
 abbrev pub FiguresStand : Type 0
-FiguresStand = All Holds cases
+FiguresStand = AllByRecursion Holds cases
