@@ -3,14 +3,15 @@
 
 ghost use Rattle.std.specs.Prelude.{◌≡◌, ℕ, ◌+◌, ◌-◌, ◌<◌, ◌≤◌, true, Ok, Err};
 ghost use Rattle.refusal.specs.Rules.{Broken, NoOther};
-ghost use Rattle.weighing.specs.Calls.{Span, raised};
+ghost use Rattle.counter.specs.Counters.{raised};
+ghost use Rattle.weighing.specs.Calls.{Span};
 ghost use Rattle.even.specs.Evens.{nominal_fits, even_weight, even_verdict, even_top};
 ghost use Rattle.std.proofs.Common.{arith, rules};
 ghost use Rattle.std.proofs.lemmas.Bool.{cond-true};
 ghost use Rattle.even.specs.Squares.{even_bounded, even_quadrangle};
 
+use counter::Counter;
 use refusal::Refusal;
-use weighing::counter::Counter;
 use weighing::verdict::{MOST_READINGS, verdict_on};
 use weighing::weighing::Weighing;
 

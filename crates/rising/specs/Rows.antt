@@ -3,7 +3,8 @@ use Rattle.std.specs.Prelude.{◌≡◌, ℕ, ◌+◌, ◌-◌, ◌<◌, ◌≤�
 use Rattle.refusal.specs.declared.Refusal.{Refusal}
 use Rattle.refusal.specs.Rules.{Broken, NoOther}
 use Rattle.weighing.specs.declared.weighing.Weighing.{Ghosts}
-use Rattle.weighing.specs.Calls.{Span, raised}
+use Rattle.counter.specs.Counters.{raised}
+use Rattle.weighing.specs.Calls.{Span}
 use Rattle.rising.specs.Sums.{sum_first}
 use Rattle.weighing.specs.Verdicts.{next_verdict}
 

@@ -9,8 +9,8 @@ ghost use Rattle.rising.specs.CeilingsLemmas.{ceiling_bounded, ceiling_quadrangl
 ghost use Rattle.std.proofs.Common.{arith, rules};
 
 use crate::readings::{RISING_TOP, Readings};
+use counter::Counter;
 use refusal::Refusal;
-use weighing::counter::Counter;
 use weighing::weighing::Weighing;
 
 /// A span weighs what its readings lie below the last of them, in all. Readings never fall.

@@ -9,8 +9,8 @@ ghost use Rattle.rising.specs.MiddlesLemmas.{middle_bounded, middle_quadrangle};
 ghost use Rattle.std.proofs.Common.{arith, rules};
 
 use crate::readings::{RISING_TOP, Readings};
+use counter::Counter;
 use refusal::Refusal;
-use weighing::counter::Counter;
 use weighing::weighing::Weighing;
 
 /// A span weighs how far its readings lie from the middle one, in all. Readings never fall.

@@ -1,5 +1,6 @@
 -- What the calls of a weighing answer, and what they leave of its meaning.
-use Rattle.std.specs.Prelude.{◌≡◌, ℕ, ◌+◌, ◌-◌, ◌^◌, ◌<◌, ◌≤◌, min, Some, None, Ok, Err, Option, Result}
+use Rattle.std.specs.Prelude.{◌≡◌, ℕ, ◌+◌, ◌-◌, ◌^◌, ◌<◌, ◌≤◌, Some, None, Ok, Err, Option, Result}
+use Rattle.counter.specs.Counters.{raised}
 use Rattle.refusal.specs.declared.Refusal.{Refusal}
 use Rattle.refusal.specs.Numbers.{number}
 use Rattle.refusal.specs.Rules.{Broken, NoOther}
@@ -8,10 +9,6 @@ use Rattle.refusal.specs.Rules.{Broken, NoOther}
 abbrev pub told : Option Refusal → ℕ
 told None = 0
 told (Some why) = number why
-
--- one more, up to 2^63 - 1
-abbrev pub raised : ℕ → ℕ
-raised count = min (count + 1) (2 ^ 63 - 1)
 
 -- a..b is a span of n readings: it covers a to b - 1
 pub record Span (n a b : ℕ) : Type 0 where
