@@ -1,7 +1,7 @@
 -- The reduction: what a grid's answers allow to be thrown away. The three moves of a reduction are `pop`, `push` and `pass`.
 use Rattle.std.proofs.Common.{◌≡◌, ℕ, ◌+◌, ◌-◌, ◌<◌, ◌≤◌, true, false, sym, ap, ◌∙◌, subst, ⊎_elim, arith}
 use Rattle.std.proofs.lemmas.Bool.{both_ways, cases_Bool, cases_lt}
-use Rattle.search.specs.Grid.{Grid, Answer, Column, Stack, Holds}
+use Rattle.search.specs.Grid.{Grid, Answer, Column, Stack, Holds, Keeps}
 use Rattle.search.proofs.Least.{WeakOrder, leftmost_exists, leftmost_same}
 
 -- the order is a strict weak one, and the grid is totally monotone
@@ -164,6 +164,9 @@ holds_moved {G = G} st st' count e h = record {
   within = λ j l. subst (λ c. Column G c) (sym (e j l)) (h.within j l);
   kept = λ i c l a. let w = h.kept i c l a in (w.0, w.1, e w.0 w.1 ∙ w.2);
 }
+
+pub keeps_moved : {E : Type 0} {G : Grid E} {st st' : ℕ → ℕ} {count : ℕ} → ((j : ℕ) → j < count → st' j ≡ st j) → Keeps G st count → Keeps G st' count
+keeps_moved {st = st} {st' = st'} {count = count} e k = record { holds = holds_moved st st' count e k.holds; few = k.few; some = k.some }
 
 -- the same grid with other entries, which agree where it looks
 abbrev pub with_entry : {E : Type 0} → Grid E → (ℕ → ℕ → E) → Grid E
