@@ -9,10 +9,10 @@ use Rattle.search.specs.Search.{Fits, BestInRow, Searched}
 use Rattle.search.specs.Grid.{Grid, Answer, Holds, Keeps}
 use Rattle.search.specs.Levels.{Kept, AllKept, Shown, every, nth, from, base_of}
 use Rattle.search.specs.Steps.{Read, ReadWithin, Reduced, KeptFrom, KeptBeyond, Filled, Started, Lowered, Raised}
-use Rattle.search.proofs.Grid.{keeps_moved}
+use Rattle.search.proofs.Grid.{answer_same, keeps_moved}
 use Rattle.search.proofs.Least.{leftmost_same, leftmost_unique}
 use Rattle.search.proofs.Reading.{read_more, within_more}
-use Rattle.search.proofs.Standing.{answer_back}
+use Rattle.search.proofs.Standing.{agrees_back}
 use Rattle.std.proofs.lemmas.List.{get_or-append-add}
 use Rattle.std.proofs.Math.ListN.{get_or-append}
 use Rattle.search.proofs.Rows.{second_row}
@@ -149,7 +149,7 @@ far rows n stride j a b = omega arith
 
 pub level_done : {S E : Type 0} (m : Ghosts S E) {s t u : S} {strip : Strip} {stride len : ℕ} {answers new old : List ℕ} → 0 < stride → Fits m s strip → ((x y z : S) → m.passes x y → m.passes y z → m.passes x z) → ReadWithin m (3 * (strip.rows / (stride * 2))) s t → len ≤ strip.rows / stride → KeptFrom old answers strip.rows → Filled m t u strip stride len answers new → Answered m s u strip stride old new
 level_done m {strip = strip} {stride = stride} {len = len} step fits onward r few same f = record {
-  answers = λ i l. answer_back m step fits r.2 i _ l (f.answers i l);
+  answers = λ i l. answer_same (every m _ strip stride) (agrees_back m step fits r.2) i _ l (f.answers i l);
   beyond = λ j l. f.beyond j (far strip.rows (strip.rows / stride) stride j (div-mul-le_self strip.rows stride) l) ∙ same j l;
   reads = (r.0 + f.reads.0, bill r.0 f.reads.0 len (strip.rows / stride) (strip.rows / (stride * 2)) r.1 (sym (div-div-eq-div-mul strip.rows stride 2)) f.reads.1 few, read_more m onward r.2 f.reads.2);
 }

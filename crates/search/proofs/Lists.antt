@@ -9,7 +9,7 @@ use Rattle.std.specs.List.{range_with_len}
 use Rattle.std.proofs.lemmas.List.FromFn.{length-range_with_len, get_or-range_with_len}
 use Rattle.search.specs.Grid.{Grid, Column, Stack, Holds, Keeps}
 use Rattle.search.specs.Levels.{nth}
-use Rattle.search.proofs.Grid.{Lawful, push, stack_holds, holds_moved, holds_some}
+use Rattle.search.proofs.Grid.{Lawful, push, stack_holds, keeps_moved, holds_some}
 
 -- the next column is written on top of the stack
 pub pushed : {E : Type 0} {G : Grid E} (lawful : Lawful G) (xs : List ℕ) (t x : ℕ) → Stack G (nth xs) t x → Column G x → t < G.rows → t < length xs → (0 < t → G.before (G.entry (t - 1) x) (G.entry (t - 1) (nth xs (t - 1))) ≡ false) → Stack G (nth (set xs t x)) (t + 1) (x + 1)
@@ -34,10 +34,10 @@ all_columns G end e =
 -- the number of the columns is written behind their room
 pub counted : {E : Type 0} {G : Grid E} (lawful : Lawful G) (xs : List ℕ) (len : ℕ) → 0 < G.rows → 0 < G.columns → G.rows < length xs → Stack G (nth xs) len (G.first + G.columns) → Keeps G (nth (set xs G.rows len)) (nth (set xs G.rows len) G.rows)
 counted {G = G} lawful xs len rows columns room stack =
-    let st : ℕ → ℕ = nth (set xs G.rows len) in
+    let holds = stack_holds G (nth xs) len stack in
+    let kept : Keeps G (nth xs) len = record { holds = holds; few = stack.fits; some = holds_some lawful (nth xs) len rows columns holds } in
     let fits = stack.fits in
-    let holds = holds_moved (nth xs) st len (λ j l. get_or-set_other xs G.rows j len 0 (λ e. omega arith)) (stack_holds G (nth xs) len stack) in
-    subst (Keeps G st) (sym (get_or-set_same xs G.rows len 0 room)) (record { holds = holds; few = fits; some = holds_some lawful st len rows columns holds })
+    subst (Keeps G (nth (set xs G.rows len))) (sym (get_or-set_same xs G.rows len 0 room)) (keeps_moved (λ j l. get_or-set_other xs G.rows j len 0 (λ e. omega arith)) kept)
 
 module _ {S : Type 0} (steps : S → Option ℕ → S → Type 0) (s : S) (all : List ℕ) (gives : AlwaysYields steps (λ c. c) s all) where
   -- the item behind those that were given is the list's

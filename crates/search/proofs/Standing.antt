@@ -4,11 +4,11 @@ use Rattle.search.specs.declared.sheet.Sheet.{Ghosts}
 use Rattle.search.specs.declared.strip.Strip.{Strip}
 use Rattle.search.specs.Search.{Fits}
 use Rattle.search.specs.Strips.{Inside}
-use Rattle.search.specs.Grid.{Answer, Column, Stack, Keeps}
+use Rattle.search.specs.Grid.{Column}
 use Rattle.search.specs.Levels.{every, row_of}
 use Rattle.search.specs.Steps.{HasPlace, Read}
 use Rattle.search.proofs.Least.{WeakOrder}
-use Rattle.search.proofs.Grid.{Lawful, Agree, answer_same, stack_same, holds_same}
+use Rattle.search.proofs.Grid.{Lawful, Agree}
 use Rattle.search.proofs.Rows.{times_le, times_pos, row_in}
 
 -- the laws of the trait, as a proof has them
@@ -43,30 +43,12 @@ module _ {S E : Type 0} (m : Ghosts S E) {s : S} {strip : Strip} {stride : ℕ} 
       let x = col.high in
       record { row_in = omega arith; column_in = omega arith }
 
+  -- the level of a sheet and of what reads make of it agree, both ways
   pub level_agrees : {n : ℕ} {t : S} → Read m n s t → Agree (every m s strip stride) (every m s strip stride).entry (every m t strip stride).entry
   level_agrees r i c l col = let p = level_place i c l col in sym (r.at_same (row_of strip stride i) c p.row_in p.column_in)
 
   pub agrees_back : {n : ℕ} {t : S} → Read m n s t → Agree (every m s strip stride) (every m t strip stride).entry (every m s strip stride).entry
   agrees_back r i c l col = sym (level_agrees r i c l col)
-
-  -- what was known of the sheet is known of what reads make of it, and the other way round
-  pub stack_there : {n len next : ℕ} {t : S} {st : ℕ → ℕ} → Read m n s t → Stack (every m s strip stride) st len next → Stack (every m t strip stride) st len next
-  stack_there {len = len} {next = next} {st = st} r = stack_same (every m s strip stride) (level_agrees r) st len next
-
-  pub stack_back : {n len next : ℕ} {t : S} {st : ℕ → ℕ} → Read m n s t → Stack (every m t strip stride) st len next → Stack (every m s strip stride) st len next
-  stack_back {len = len} {next = next} {st = st} r = stack_same (every m s strip stride) (agrees_back r) st len next
-
-  pub keeps_there : {n count : ℕ} {t : S} {st : ℕ → ℕ} → Read m n s t → Keeps (every m s strip stride) st count → Keeps (every m t strip stride) st count
-  keeps_there {count = count} {st = st} r k = record { holds = holds_same (every m s strip stride) (level_agrees r) st count k.holds; few = k.few; some = k.some }
-
-  pub keeps_back : {n count : ℕ} {t : S} {st : ℕ → ℕ} → Read m n s t → Keeps (every m t strip stride) st count → Keeps (every m s strip stride) st count
-  keeps_back {count = count} {st = st} r k = record { holds = holds_same (every m s strip stride) (agrees_back r) st count k.holds; few = k.few; some = k.some }
-
-  pub answer_there : {n : ℕ} {t : S} → Read m n s t → (i c : ℕ) → i < strip.rows / stride → Answer (every m s strip stride) i c → Answer (every m t strip stride) i c
-  answer_there r = answer_same (every m s strip stride) (level_agrees r)
-
-  pub answer_back : {n : ℕ} {t : S} → Read m n s t → (i c : ℕ) → i < strip.rows / stride → Answer (every m t strip stride) i c → Answer (every m s strip stride) i c
-  answer_back r = answer_same (every m s strip stride) (agrees_back r)
 
   -- what two columns say of each other after some reads, they would have said before
   pub said_before : {n : ℕ} {t : S} → Read m n s t → (i a b row : ℕ) → i < strip.rows / stride → Column (every m s strip stride) a → Column (every m s strip stride) b → row ≡ row_of strip stride i → (said : Bool) → said ≡ m.before (m.at t row b) (m.at t row a) → m.before (m.at s (row_of strip stride i) b) (m.at s (row_of strip stride i) a) ≡ said

@@ -9,6 +9,9 @@ use crate::scan::fill;
 use crate::sheet::Sheet;
 use crate::strip::Strip;
 
+// Sheet, list and strip are passed on and not held in a struct: each method of one would have to promise
+// that it keeps both references and the strip, three clauses for the one that `Ready` is.
+
 /// Makes the first level: all rows of the strip.
 pub(crate) fn start<S: Sheet>(sheet: &mut S, work: &mut [usize], strip: Strip)
     requires ready { Ready S.Sheet sheet.old strip work.old }

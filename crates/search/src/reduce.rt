@@ -33,6 +33,8 @@ fn beats<S: Sheet>(sheet: &mut S, row: usize, left: usize, right: usize) -> bool
     S::precedes(&new, &old)
 }
 
+// The stack stands in the room that is lent, with nothing on a heap: so its length goes beside the room.
+
 /// How many columns of the stack are left once `column` has driven out those on top that it beats.
 fn driven<S: Sheet>(sheet: &mut S, room: &[usize], level: Level, len: usize, column: usize) -> usize
     requires fits { Fits S.Sheet sheet.old level.strip }

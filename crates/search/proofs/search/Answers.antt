@@ -1,6 +1,8 @@
-use Rattle.std.proofs.Common.{◌≡◌, ℕ, ◌-◌, ◌*◌, ◌≤◌, length, refl, arith, pow_pos}
+use Rattle.std.proofs.Common.{◌≡◌, ℕ, ◌-◌, ◌*◌, ◌^◌, ◌≤◌, length, refl, arith, pow_pos}
 use Rattle.search.specs.Search.{Fits}
-use Rattle.search.proofs.Standing.{fits_there, keeps_there}
+use Rattle.search.proofs.Standing.{fits_there, level_agrees}
+use Rattle.search.specs.Levels.{every}
+use Rattle.search.proofs.Grid.{keeps_same}
 use Rattle.search.proofs.Depths.{searched}
 use Rattle.search.proofs.search.Given as given
 use Rattle.search.proofs.search.Goals as goal
@@ -24,7 +26,7 @@ lower-last-requires g c =
     let a = c.start.ensures.after in
     record {
       ready = record { fits = fits_there m a.reads.2 inside; room = omega arith };
-      kept = keeps_there m (omega arith) inside a.reads.2 a.kept;
+      kept = keeps_same (every m c.args.sheet.now c.args.strip 1) (level_agrees m (omega arith) inside a.reads.2) a.kept;
     }
 
 pub raise-requires : goal.raise-requires
@@ -37,7 +39,7 @@ raise-requires g c =
     record {
       ready = record { fits = fits_there m l.reads.2 started; room = room };
       long = long;
-      levels = (l.levels.0, l.levels.1, λ d h. keeps_there m (pow_pos d) started l.reads.2 (l.levels.2 d h));
+      levels = (l.levels.0, l.levels.1, λ d h. keeps_same (every m c.start.new.sheet c.args.strip (2 ^ d)) (level_agrees m (pow_pos d) started l.reads.2) (l.levels.2 d h));
       end = l.last;
     }
 

@@ -1,8 +1,9 @@
 use Rattle.std.proofs.Common.{◌≡◌, ℕ, ◌+◌, ◌*◌, ◌/◌, ◌^◌, ◌<◌, ◌≤◌, sym, refl, ap, ◌∙◌, subst, div-one, arith}
-use Rattle.search.specs.Levels.{Kept, nth, base_of}
+use Rattle.search.specs.Levels.{Kept, every, nth, base_of}
 use Rattle.search.proofs.Reading.{read_none, read_more}
 use Rattle.search.proofs.Depths.{halved, pow_next, one_more}
-use Rattle.search.proofs.Standing.{fits_there, keeps_there, keeps_back}
+use Rattle.search.proofs.Standing.{fits_there, level_agrees, agrees_back}
+use Rattle.search.proofs.Grid.{keeps_same}
 use Rattle.search.proofs.levels.lower.Goals as goal
 
 pub loop-stride-init : goal.loop-stride-init
@@ -26,7 +27,7 @@ deepen-requires g c =
       ready = record { fits = fits_there m inv.4.2 fits; room = omega (arith, c.requires.ready.room, c.loop-stride.auto.work) };
       step = inv.0;
       below = omega (arith, c.loop-stride-test.true);
-      kept = keeps_there m inv.0 fits inv.4.2 (subst (λ k. Kept m c.args.sheet.now c.args.strip k c.loop-stride.work) (sym lev.1) (lev.2 lev.0 (omega arith)));
+      kept = keeps_same (every m c.args.sheet.now c.args.strip c.loop-stride.stride) (level_agrees m inv.0 fits inv.4.2) (subst (λ k. Kept m c.args.sheet.now c.args.strip k c.loop-stride.work) (sym lev.1) (lev.2 lev.0 (omega arith)));
     }
 
 bill : (a most n rows half : ℕ) → a + 8 * rows ≤ most → n ≤ 4 * rows → half ≡ rows / 2 → (a + n) + 8 * half ≤ most
@@ -46,7 +47,7 @@ loop-stride-preserved g c =
     let se : stride ≡ 2 ^ e = lev.1 in
     let d = c.deepen.ensures.after in
     let h = halved strip.rows stride inv.0 below in
-    let kept = keeps_back m pos c.requires.ready.fits inv.4.2 d.kept in (
+    let kept = keeps_same (every m s strip (stride * 2)) (agrees_back m pos c.requires.ready.fits inv.4.2) d.kept in (
       pos,
       below,
       (

@@ -5,7 +5,8 @@ use Rattle.search.specs.Grid.{Answer, Keeps}
 use Rattle.search.specs.Levels.{Kept, Shown, nth, every, base_of, many}
 use Rattle.search.specs.Steps.{Filled}
 use Rattle.search.proofs.Reading.{read_none}
-use Rattle.search.proofs.Standing.{fits_there, keeps_there, answer_there, within_largest}
+use Rattle.search.proofs.Standing.{fits_there, level_agrees, within_largest}
+use Rattle.search.proofs.Grid.{answer_same, keeps_same}
 use Rattle.search.proofs.Depths.{Answered, of_level, last_kept, has_row, shown_keeps, level_done, all_answered, odd_rows, pow_half}
 use Rattle.search.proofs.levels.raise.Given as given
 use Rattle.search.proofs.levels.raise.Goals as goal
@@ -73,8 +74,9 @@ fill-requires g c =
     let answers = c.loop-stride.answers in
     let is = c.at-level.ensures in
     let whole = c.at-level.result.whole in
-    let keeps = keeps_there m inv.4 fits inv.3.2 (shown g here.After-kept (kept g here.After-at-level)) in
-    let known = of_level (λ a i. (j : ℕ) → 2 * j + 1 < a.rows / i → Answer (every m t a i) (2 * j + 1) (get_or answers ((2 * j + 1 + 1) * i - 1) 0)) (sym is.strip) (sym is.stride) (λ j l. answer_there m inv.4 fits inv.3.2 (2 * j + 1) _ l (inv.1 j l)) in
+    let agree = level_agrees m inv.4 fits inv.3.2 in
+    let keeps = keeps_same (every m s strip stride) agree (shown g here.After-kept (kept g here.After-at-level)) in
+    let known = of_level (λ a i. (j : ℕ) → 2 * j + 1 < a.rows / i → Answer (every m t a i) (2 * j + 1) (get_or answers ((2 * j + 1 + 1) * i - 1) 0)) (sym is.strip) (sym is.stride) (λ j l. answer_same (every m s strip stride) agree (2 * j + 1) _ l (inv.1 j l)) in
     record {
       fits = subst (Fits m t) (sym is.strip) (fits_there m inv.3.2 fits);
       keeps = of_level (λ a i. Keeps (every m t a i) (nth columns) (length columns)) (sym is.strip) (sym is.stride) keeps;

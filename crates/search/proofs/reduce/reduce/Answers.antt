@@ -6,7 +6,8 @@ use Rattle.search.specs.Levels.{nth}
 use Rattle.search.specs.Steps.{grid_of}
 use Rattle.search.proofs.Reading.{read_none, read_more}
 use Rattle.search.proofs.Kept.{upto, upto_in, first_offered, next_offered, upto_end}
-use Rattle.search.proofs.Standing.{Laws, fits_there, level_lawful, stack_there, stack_back}
+use Rattle.search.proofs.Standing.{Laws, fits_there, level_lawful, level_agrees, agrees_back}
+use Rattle.search.proofs.Grid.{stack_same}
 use Rattle.search.proofs.Lists.{counted, given_next, given_all}
 use Rattle.search.proofs.reduce.reduce.Given as given
 use Rattle.search.proofs.reduce.reduce.Goals as goal
@@ -47,7 +48,7 @@ offer-len-requires g c =
     record {
       fits = fits_there m inv.2.2 fits;
       room = omega (arith, c.loop-column.auto.room);
-      stack = stack_there m level.step fits inv.2.2 (subst (λ x. Stack G (nth c.loop-column.room) c.loop-column.len x) same inv.0);
+      stack = stack_same G (level_agrees m level.step fits inv.2.2) (subst (λ x. Stack G (nth c.loop-column.room) c.loop-column.len x) same inv.0);
       inside = record { low = col.low; high = col.high };
     }
 
@@ -65,7 +66,7 @@ loop-column-preserved g c =
     let G = grid_of m c.args.sheet.now level in
     let o = c.offer-len.ensures.after in
     let st = nth c.offer-len.new.room in
-    let stack = stack_back m level.step fits inv.2.2 o.stack in
+    let stack = stack_same G (agrees_back m level.step fits inv.2.2) o.stack in
     let before = inv.2.1 in
     let paid = o.reads.1 in (
       subst (λ k. Stack G st c.offer-len.result (upto (nth g.offered) (level.strip.column + level.strip.columns) (length g.offered) k)) more (next_offered G (nth g.offered) (length g.offered) holds st c.offer-len.result seen n.0 (subst (λ x. Stack G st c.offer-len.result (x + 1)) (sym n.1) stack)),
