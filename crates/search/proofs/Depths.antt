@@ -6,7 +6,7 @@ use Rattle.search.specs.declared.sheet.Sheet.{Ghosts}
 use Rattle.search.specs.declared.strip.Strip.{Strip}
 use Rattle.search.specs.Least.{Leftmost}
 use Rattle.search.specs.Search.{Fits, BestInRow, Searched}
-use Rattle.search.specs.Grid.{Grid, Answer, Holds, Keeps}
+use Rattle.search.specs.Grid.{Answer, Holds, Keeps}
 use Rattle.search.specs.Levels.{Kept, AllKept, Shown, every, nth, from, base_of}
 use Rattle.search.specs.Steps.{Read, ReadWithin, Reduced, KeptFrom, KeptBeyond, Filled, Started, Lowered, Raised}
 use Rattle.search.proofs.Grid.{answer_same, keeps_moved}
@@ -63,14 +63,6 @@ shown_keeps m s strip stride work columns shown k = subst (Keeps (every m s stri
 -- the last of all levels, which has a row
 pub last_kept : {S E : Type 0} (m : Ghosts S E) (s : S) (strip : Strip) (work : List ℕ) (stride e : ℕ) → stride ≡ 2 ^ e → AllKept m s strip work e → Kept m s strip stride work
 last_kept m s strip work stride e is all = subst (λ k. Kept m s strip k work) (sym is) (all e (omega arith))
-
-pub has_row : {E : Type 0} {G : Grid E} {st : ℕ → ℕ} {count rows stride : ℕ} → 0 < stride → G.rows ≡ rows / stride → Keeps G st count → stride ≤ rows
-has_row {rows = rows} {stride = stride} pos is k =
-    let few = k.few in
-    let some = k.some in
-    let one = native.Mathlib.Nat.one-mul stride in
-    let row = (le-div_iff_mul-le {k = stride} {x = 1} {y = rows} pos).0 (omega arith) in
-    omega arith
 
 fewer_rows : (rows s t : ℕ) → 0 < s → s ≤ t → rows / t ≤ rows / s
 fewer_rows rows s t pos le =

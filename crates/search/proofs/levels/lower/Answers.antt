@@ -1,21 +1,10 @@
-use Rattle.std.proofs.Common.{◌≡◌, ℕ, ◌+◌, ◌*◌, ◌/◌, ◌^◌, ◌<◌, ◌≤◌, sym, refl, ap, ◌∙◌, subst, div-one, arith}
+use Rattle.std.proofs.Common.{◌≡◌, ℕ, ◌+◌, ◌*◌, ◌/◌, ◌^◌, ◌<◌, ◌≤◌, sym, ap, ◌∙◌, subst, arith}
 use Rattle.search.specs.Levels.{Kept, every, nth, base_of}
-use Rattle.search.proofs.Reading.{read_none, read_more}
+use Rattle.search.proofs.Reading.{read_more}
 use Rattle.search.proofs.Depths.{halved, pow_next, one_more}
 use Rattle.search.proofs.Standing.{fits_there, level_agrees, agrees_back}
 use Rattle.search.proofs.Grid.{keeps_same}
 use Rattle.search.proofs.levels.lower.Goals as goal
-
-pub loop-stride-init : goal.loop-stride-init
-loop-stride-init g c =
-    let m = g.S.Sheet in
-    let s = c.args.sheet.now in (
-      omega arith,
-      c.requires.ready.fits.some_row,
-      (0, refl, λ d l. let e : 0 ≡ d = omega arith in subst (λ k. Kept m s c.args.strip (2 ^ k) c.args.work.now) e c.requires.kept),
-      λ j l. refl,
-      (0, omega (arith, div-one c.args.strip.rows), read_none m g.met.S.Sheet.stays g.met.S.Sheet.capped s),
-    )
 
 pub deepen-requires : goal.deepen-requires
 deepen-requires g c =
@@ -58,8 +47,3 @@ loop-stride-preserved g c =
       λ j l. d.beyond j l ∙ inv.3 j l,
       (inv.4.0 + d.reads.0, bill inv.4.0 (8 * strip.rows) d.reads.0 (strip.rows / stride) (strip.rows / (stride * 2)) inv.4.1 d.reads.1 h.half, read_more m g.met.S.Sheet.onward inv.4.2 d.reads.2),
     )
-
-pub returns : goal.returns
-returns g c =
-    let inv = c.loop-stride.invariant in
-    record { after = record { last = omega (arith, c.loop-stride-test.false); levels = inv.2; beyond = inv.3; reads = (inv.4.0, omega (arith, inv.4.1), inv.4.2) } }

@@ -1,58 +1,21 @@
-use Rattle.std.proofs.Common.{◌≡◌, ℕ, ◌+◌, ◌-◌, ◌*◌, ◌/◌, ◌^◌, ◌<◌, ◌≤◌, length, get_or, sym, refl, ap, ◌∙◌, subst, div-lt_iff_lt-mul, div-le_self, arith, pow_pos}
+use Rattle.std.proofs.Common.{◌≡◌, ℕ, ◌+◌, ◌-◌, ◌*◌, ◌/◌, ◌^◌, ◌<◌, ◌≤◌, length, get_or, sym, ap, ◌∙◌, subst, arith, pow_pos}
 use native.Mathlib.Nat.{div-div-eq-div-mul}
 use Rattle.search.specs.Search.{Fits}
 use Rattle.search.specs.Grid.{Answer, Keeps}
-use Rattle.search.specs.Levels.{Kept, Shown, nth, every, base_of, many}
+use Rattle.search.specs.Levels.{Kept, Shown, nth, every}
 use Rattle.search.specs.Steps.{Filled}
-use Rattle.search.proofs.Reading.{read_none}
-use Rattle.search.proofs.Standing.{fits_there, level_agrees, within_largest}
+use Rattle.search.proofs.Standing.{fits_there, level_agrees}
 use Rattle.search.proofs.Grid.{answer_same, keeps_same}
-use Rattle.search.proofs.Depths.{Answered, of_level, last_kept, has_row, shown_keeps, level_done, all_answered, odd_rows, pow_half}
+use Rattle.search.proofs.Depths.{Answered, of_level, last_kept, shown_keeps, level_done, all_answered, odd_rows, pow_half}
 use Rattle.search.proofs.levels.raise.Given as given
 use Rattle.search.proofs.levels.raise.Goals as goal
 use Rattle.search.proofs.levels.raise.Goals.{After-at-level, After-kept, After-fill}
-
-single : (rows stride : ℕ) → 0 < stride → rows < stride * 2 → rows / stride < 2
-single rows stride pos l = (div-lt_iff_lt-mul {k = stride} {x = rows} {y = 2} pos).1 (omega arith)
-
-pub loop-stride-init : goal.loop-stride-init
-loop-stride-init g c =
-    let m = g.S.Sheet in
-    let pos : 0 < c.args.last = subst (λ k. 0 < k) (sym c.requires.levels.1) (pow_pos c.requires.levels.0) in
-    let u = single c.args.strip.rows c.args.last pos c.requires.end in
-    (c.requires.levels, λ j l. absurd (omega arith), λ j _. refl, (0, omega arith, read_none m g.met.S.Sheet.stays g.met.S.Sheet.capped c.args.sheet.now), pos)
-
-pub at-level-requires : goal.at-level-requires
-at-level-requires g c =
-    let m = g.S.Sheet in
-    let met = g.met.S.Sheet in
-    let s = c.args.sheet.now in
-    let inv = c.loop-stride.invariant in
-    record {
-      inside = within_largest m (met.low s) (met.narrow s) c.requires.ready.fits;
-      step = inv.4;
-      some = has_row inv.4 refl (last_kept m s c.args.strip c.args.work.now c.loop-stride.stride inv.0.0 inv.0.1 inv.0.2);
-    }
 
 -- the turn's level, of the sheet as it was at first
 kept : (g : given.Over) (c : After-at-level g) → Kept g.S.Sheet c.args.sheet.now c.args.strip c.loop-stride.stride c.args.work.now
 kept g c =
     let lev = c.loop-stride.invariant.0 in
     last_kept g.S.Sheet c.args.sheet.now c.args.strip c.args.work.now c.loop-stride.stride lev.0 lev.1 lev.2
-
-pub kept-requires : goal.kept-requires
-kept-requires g c =
-    let k = kept g (goal.at.kept-requires g c).After-at-level in
-    let work = c.args.work.now in
-    let strip = c.args.strip in
-    let stride = c.loop-stride.stride in
-    let is = c.at-level.ensures in
-    let all = div-le_self strip.rows stride in
-    let there : base_of strip stride + strip.rows / stride < length work = omega (arith, c.requires.ready.room, c.requires.ready.fits.some_row) in
-    let room = of_level (λ a i. base_of a i + a.rows / i < length work) (sym is.strip) (sym is.stride) there in
-    let few = of_level (λ a i. many work a i ≤ a.rows / i) (sym is.strip) (sym is.stride) k.few in
-    let whole = c.at-level.result.whole in
-    record { room = omega arith; few = omega arith }
 
 -- and the list of its columns
 shown : (g : given.Over) (c : After-kept g) → Kept g.S.Sheet c.args.sheet.now c.args.strip c.loop-stride.stride c.args.work.now → Keeps (every g.S.Sheet c.args.sheet.now c.args.strip c.loop-stride.stride) (nth c.kept.result.now) (length c.kept.result.now)

@@ -1,10 +1,10 @@
-use Rattle.std.proofs.Common.{◌≡◌, ℕ, ◌+◌, ◌-◌, ◌*◌, ◌/◌, ◌<◌, Bool, sym, subst, arith}
+use Rattle.std.proofs.Common.{◌≡◌, ◌+◌, ◌-◌, ◌*◌, Bool, subst, arith}
 use Rattle.search.specs.Grid.{Column, Stack}
 use Rattle.search.specs.Levels.{nth}
-use Rattle.search.specs.Steps.{Read, HasPlace, Driven, grid_of}
-use Rattle.search.proofs.Reading.{read_none, read_more, place_there}
+use Rattle.search.specs.Steps.{Read, Driven, grid_of}
+use Rattle.search.proofs.Reading.{read_more}
 use Rattle.search.proofs.Grid.{pop_top, top_column}
-use Rattle.search.proofs.Standing.{Laws, level_place, level_lawful, said_before}
+use Rattle.search.proofs.Standing.{Laws, level_lawful, said_before}
 use Rattle.search.proofs.reduce.driven.Given as given
 use Rattle.search.proofs.reduce.driven.Goals as goal
 use Rattle.search.proofs.reduce.driven.Goals.{After-row}
@@ -12,30 +12,9 @@ use Rattle.search.proofs.reduce.driven.Goals.{After-row}
 laws : (g : given.Over) → Laws g.S.Sheet
 laws g = let met = g.met.S.Sheet in record { order = record { irreflexive = met.irreflexive; transitive = met.transitive; weak = met.weak }; monotone = met.monotone }
 
-pub loop-top-init : goal.loop-top-init
-loop-top-init g c =
-    let e : 0 ≡ 2 * (c.args.len - c.args.len) = omega arith in
-    (c.requires.stack, subst (λ n. Read g.S.Sheet n c.args.sheet.now c.args.sheet.now) e (read_none g.S.Sheet g.met.S.Sheet.stays g.met.S.Sheet.capped c.args.sheet.now))
-
-pub row-requires : goal.row-requires
-row-requires g c = let f = c.loop-top.invariant.0.fits in let w = c.args.level.whole in omega arith
-
 -- the topmost column is one of the grid's
 on_top : (g : given.Over) (c : After-row g) → Column (grid_of g.S.Sheet c.args.sheet.now c.args.level) (nth c.args.room.now (c.loop-top.top - 1))
 on_top g c = top_column (grid_of g.S.Sheet c.args.sheet.now c.args.level) (nth c.args.room.now) c.loop-top.top c.args.column c.loop-top-test.true c.loop-top.invariant.0
-
--- a column of the grid is a place of the row that is asked
-placed : (g : given.Over) (c : After-row g) (x : ℕ) → Column (grid_of g.S.Sheet c.args.sheet.now c.args.level) x → HasPlace g.S.Sheet c.loop-top.sheet c.row.result x
-placed g c x col =
-    let m = g.S.Sheet in
-    let f = c.loop-top.invariant.0.fits in
-    let l : c.loop-top.top - 1 < c.args.level.strip.rows / c.args.level.stride = omega arith in
-    subst (λ r. HasPlace m c.loop-top.sheet r x) (sym c.row.ensures) (place_there m c.loop-top.invariant.1 (level_place m c.args.level.step c.requires.fits (c.loop-top.top - 1) x l col))
-
-pub beats-requires : goal.beats-requires
-beats-requires g c =
-    let a = (goal.at.beats-requires g c).After-row in
-    record { old = placed g a _ (on_top g a); new = placed g a _ c.requires.inside }
 
 -- what the topmost column and the next one say of each other
 said : (g : given.Over) (c : After-row g) (b : Bool) → b ≡ g.S.Sheet.before (g.S.Sheet.at c.loop-top.sheet c.row.result c.args.column) (g.S.Sheet.at c.loop-top.sheet c.row.result (nth c.args.room.now (c.loop-top.top - 1))) → let G = grid_of g.S.Sheet c.args.sheet.now c.args.level in G.before (G.entry (c.loop-top.top - 1) c.args.column) (G.entry (c.loop-top.top - 1) (nth c.args.room.now (c.loop-top.top - 1))) ≡ b

@@ -16,6 +16,8 @@ use Rattle.search.proofs.reduce.reduce.Goals.{In-Some}
 laws : (g : given.Over) → Laws g.S.Sheet
 laws g = let met = g.met.S.Sheet in record { order = record { irreflexive = met.irreflexive; transitive = met.transitive; weak = met.weak }; monotone = met.monotone }
 
+-- Behind the lifetimes `requires` has the clauses in their order: fits, room, can, ends, gives and holds.
+
 -- the turn's column is the list's next one
 next : (g : given.Over) (c : In-Some g) → (length c.loop-column.yielded < length g.offered) × (nth g.offered (length c.loop-column.yielded) ≡ c.in-Some.column)
 next g c =
