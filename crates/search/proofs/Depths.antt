@@ -1,20 +1,20 @@
 -- From a level to the one with twice its stride: its rows are every second row, and its columns stand behind those of the levels above.
-use Rattle.std.proofs.Common.{◌≡◌, ℕ, ◌+◌, ◌-◌, ◌*◌, ◌/◌, ◌^◌, ◌<◌, ◌≤◌, List, length, get_or, set, sym, refl, ap, ◌∙◌, subst, ⊎_elim, mul-le-mul_left, pow-suc, le-div_iff_mul-le, div-le_self, div-mul-le_self, div-one, add-one, arith, get_or-set_other, get_or-set_same, pow_pos, pow_mono}
+use Rattle.std.proofs.Common.{◌≡◌, ℕ, ◌+◌, ◌-◌, ◌*◌, ◌/◌, ◌^◌, ◌<◌, ◌≤◌, List, ◌++◌, length, get_or, sym, ap, ◌∙◌, subst, ⊎_elim, mul-le-mul_left, pow-suc, le-div_iff_mul-le, div-le_self, div-mul-le_self, div-one, add-one, arith, pow_pos, pow_mono}
 use native.Mathlib.Nat.{div-div-eq-div-mul}
 use Rattle.std.proofs.lemmas.Bool.{cases_lt}
 use Rattle.search.specs.declared.sheet.Sheet.{Ghosts}
 use Rattle.search.specs.declared.strip.Strip.{Strip}
-use Rattle.search.specs.declared.level.Level.{Level}
 use Rattle.search.specs.Least.{Leftmost}
 use Rattle.search.specs.Search.{Fits, BestInRow, Searched}
-use Rattle.search.specs.Grid.{Answer, Stack, Holds}
-use Rattle.search.specs.Levels.{Stands, Kept, AllKept, grid_of, level_at, from, many}
-use Rattle.search.specs.Steps.{Read, ReadWithin, Reduced, KeptBeyond, Filled, Started, Lowered, Raised}
-use Rattle.search.proofs.Grid.{stack_holds, holds_moved, holds_some, holds_same, answer_same}
+use Rattle.search.specs.Grid.{Answer, Holds, Keeps}
+use Rattle.search.specs.Levels.{Kept, AllKept, Shown, every, nth, from, base_of}
+use Rattle.search.specs.Steps.{Read, ReadWithin, Reduced, KeptFrom, KeptBeyond, Filled, Started, Lowered, Raised}
+use Rattle.search.proofs.Grid.{answer_same, keeps_moved}
 use Rattle.search.proofs.Least.{leftmost_same, leftmost_unique}
 use Rattle.search.proofs.Reading.{read_more, within_more}
-use Rattle.search.proofs.Scans.{OddRows}
-use Rattle.search.proofs.Standing.{Laws, level_lawful, level_agrees, agrees_back, stands_there}
+use Rattle.search.proofs.Standing.{agrees_back}
+use Rattle.std.proofs.lemmas.List.{get_or-append-add}
+use Rattle.std.proofs.Math.ListN.{get_or-append}
 use Rattle.search.proofs.Rows.{second_row}
 
 -- how many rows the levels of a stride and of twice the stride have
@@ -32,16 +32,8 @@ halved rows stride pos below =
     let two : 2 ≤ rows / stride = (le-div_iff_mul-le {k = stride} {x = 2} {y = rows} pos).1 (omega arith) in
     record { all = div-le_self rows stride; two = two; twice = omega arith; one = omega arith; half = e }
 
-pub stands_at : {S E : Type 0} (m : Ghosts S E) {s : S} {strip : Strip} (work : List ℕ) (stride : ℕ) → Fits m s strip → m.rows s ≤ 512 → m.columns s ≤ 1023 → 4 * strip.rows ≤ length work → 0 < stride → Stands m s (level_at strip stride) work
-stands_at m {strip = strip} work stride fits low narrow room pos =
-    let a = fits.rows_in in
-    let b = fits.columns_in in
-    let some = fits.some_row in
-    let n = div-le_self strip.rows stride in
-    record { step = pos; tall = div-mul-le_self strip.rows stride; fits = fits; low = omega arith; narrow = omega arith; room = omega arith }
-
 module _ {S E : Type 0} (m : Ghosts S E) (s : S) (strip : Strip) where
-  pub holds_below : (stride count : ℕ) (st : ℕ → ℕ) → 2 * (strip.rows / (stride * 2)) ≤ strip.rows / stride → Holds (grid_of m s (level_at strip stride)) st count → Holds (grid_of m s (level_at strip (stride * 2))) st count
+  pub holds_below : (stride count : ℕ) (st : ℕ → ℕ) → 2 * (strip.rows / (stride * 2)) ≤ strip.rows / stride → Holds (every m s strip stride) st count → Holds (every m s strip (stride * 2)) st count
   holds_below stride count st le h = record {
     rising = h.rising;
     within = λ j l. let w = h.within j l in record { low = w.low; high = w.high };
@@ -49,49 +41,28 @@ module _ {S E : Type 0} (m : Ghosts S E) (s : S) (strip : Strip) where
   }
 
   -- the answers of a level are those of the odd rows of the level above
-  pub odd_rows : (stride : ℕ) (answers : List ℕ) → strip.rows / (stride * 2) ≡ (strip.rows / stride) / 2 → ((i : ℕ) → i < strip.rows / (stride * 2) → Answer (grid_of m s (level_at strip (stride * 2))) i (get_or answers ((i + 1) * (stride * 2) - 1) 0)) → (j : ℕ) → 2 * j + 1 < strip.rows / stride → Answer (grid_of m s (level_at strip stride)) (2 * j + 1) (get_or answers ((2 * j + 1 + 1) * stride - 1) 0)
+  pub odd_rows : (stride : ℕ) (answers : List ℕ) → strip.rows / (stride * 2) ≡ (strip.rows / stride) / 2 → ((i : ℕ) → i < strip.rows / (stride * 2) → Answer (every m s strip (stride * 2)) i (get_or answers ((i + 1) * (stride * 2) - 1) 0)) → (j : ℕ) → 2 * j + 1 < strip.rows / stride → Answer (every m s strip stride) (2 * j + 1) (get_or answers ((2 * j + 1 + 1) * stride - 1) 0)
   odd_rows stride answers half all j l =
       subst (λ x. Leftmost m.before (m.at s (strip.row + (x - 1))) strip.column strip.columns (get_or answers (x - 1) 0)) (sym (second_row j stride)) (all j (omega arith))
 
+-- what is said of a level is said of its strip and stride
+pub of_level : (P : Strip → ℕ → Type 0) {a b : Strip} {i j : ℕ} → a ≡ b → i ≡ j → P a i → P b j
+of_level P {a} {j = j} e f p = subst (λ x. P x j) e (subst (P a) f p)
+
 -- what was written elsewhere leaves a level's columns
-pub kept_same : {S E : Type 0} (m : Ghosts S E) {s : S} {level : Level} (old new : List ℕ) (most : ℕ) → level.base + level.rows < most → ((j : ℕ) → j < most → get_or new j 0 ≡ get_or old j 0) → Kept m s level old → Kept m s level new
-kept_same m {s} {level} old new most l e k =
-    let c : many new level ≡ many old level = e (level.base + level.rows) l in
+pub kept_same : {S E : Type 0} (m : Ghosts S E) (s : S) (strip : Strip) (stride : ℕ) (old new : List ℕ) (most : ℕ) → base_of strip stride + strip.rows / stride < most → ((j : ℕ) → j < most → nth new j ≡ nth old j) → Kept m s strip stride old → Kept m s strip stride new
+kept_same m s strip stride old new most l e k =
+    let base : ℕ = base_of strip stride in
     let few = k.few in
-    let some = k.some in
-    record {
-      holds = subst (λ n. Holds (grid_of m s level) (from new level.base) n) (sym c) (holds_moved (from old level.base) (from new level.base) (many old level) (λ j jl. e (level.base + j) (omega arith)) k.holds);
-      few = omega arith;
-      some = omega arith;
-    }
+    subst (Keeps (every m s strip stride) (from new base)) (sym (e (base + strip.rows / stride) l)) (keeps_moved (λ j jl. e (base + j) (omega arith)) k)
 
--- the number of a level's columns is written behind their room
-pub kept_made : {S E : Type 0} (m : Ghosts S E) (laws : Laws m) {s : S} {level : Level} {work : List ℕ} (new : List ℕ) (len : ℕ) → Stands m s level work → length new ≡ length work → 0 < level.rows → Stack (grid_of m s level) (from new level.base) len (level.strip.column + level.strip.columns) → Kept m s level (set new (level.base + level.rows) len)
-kept_made m laws {s} {level} new len stands long some stack =
-    let room = stands.room in
-    let c : many (set new (level.base + level.rows) len) level ≡ len = get_or-set_same new (level.base + level.rows) len 0 (omega arith) in
-    let fits = stack.fits in
-    let st : ℕ → ℕ = from (set new (level.base + level.rows) len) level.base in
-    let holds = holds_moved (from new level.base) st len (λ j jl. get_or-set_other new (level.base + level.rows) (level.base + j) len 0 (λ e. omega arith)) (stack_holds (grid_of m s level) (from new level.base) len stack) in
-    let pos = holds_some (level_lawful m stands laws) st len some stands.fits.some_column holds in
-    record {
-      holds = subst (λ n. Holds (grid_of m s level) st n) (sym c) holds;
-      few = omega arith;
-      some = omega arith;
-    }
+-- a list of the columns that a level keeps
+pub shown_keeps : {S E : Type 0} (m : Ghosts S E) (s : S) (strip : Strip) (stride : ℕ) (work columns : List ℕ) → Shown strip stride work columns → Kept m s strip stride work → Keeps (every m s strip stride) (nth columns) (length columns)
+shown_keeps m s strip stride work columns shown k = subst (Keeps (every m s strip stride) (nth columns)) (sym shown.count) (keeps_moved shown.same k)
 
-module _ {S E : Type 0} (m : Ghosts S E) {s : S} {level : Level} {work : List ℕ} (stands : Stands m s level work) where
-  pub kept_there : {n : ℕ} {t : S} {list : List ℕ} → Read m n s t → Kept m s level list → Kept m t level list
-  kept_there {list = list} r k = record { holds = holds_same (grid_of m s level) (level_agrees m stands r) (from list level.base) (many list level) k.holds; few = k.few; some = k.some }
-
-  pub kept_back : {n : ℕ} {t : S} {list : List ℕ} → Read m n s t → Kept m t level list → Kept m s level list
-  kept_back {list = list} r k = record { holds = holds_same (grid_of m s level) (agrees_back m stands r) (from list level.base) (many list level) k.holds; few = k.few; some = k.some }
-
-  pub answer_there : {n : ℕ} {t : S} → Read m n s t → (i c : ℕ) → i < level.rows → Answer (grid_of m s level) i c → Answer (grid_of m t level) i c
-  answer_there r = answer_same (grid_of m s level) (level_agrees m stands r)
-
-  pub answer_back : {n : ℕ} {t : S} → Read m n s t → (i c : ℕ) → i < level.rows → Answer (grid_of m t level) i c → Answer (grid_of m s level) i c
-  answer_back r = answer_same (grid_of m s level) (agrees_back m stands r)
+-- the last of all levels, which has a row
+pub last_kept : {S E : Type 0} (m : Ghosts S E) (s : S) (strip : Strip) (work : List ℕ) (stride e : ℕ) → stride ≡ 2 ^ e → AllKept m s strip work e → Kept m s strip stride work
+last_kept m s strip work stride e is all = subst (λ k. Kept m s strip k work) (sym is) (all e (omega arith))
 
 fewer_rows : (rows s t : ℕ) → 0 < s → s ≤ t → rows / t ≤ rows / s
 fewer_rows rows s t pos le =
@@ -106,17 +77,25 @@ pow_next e = ap (λ k. 2 ^ k) (add-one e) ∙ pow-suc 2 e
 room_before : (rows n k : ℕ) → n ≤ rows → 0 < n → 2 * k ≤ n → 3 * (rows - n) + n < 3 * (rows - k)
 room_before rows n k a b c = omega arith
 
+-- the work list up to the room of the next level has the columns of a level
+pub kept_before : {S E : Type 0} (m : Ghosts S E) (s : S) (strip : Strip) (stride : ℕ) (work front room : List ℕ) → 0 < stride → stride * 2 ≤ strip.rows → work ≡ front ++ room → length front ≡ base_of strip (stride * 2) → Kept m s strip stride work → Kept m s strip stride front × (base_of strip stride + strip.rows / stride < length front)
+kept_before m s strip stride work front room pos below whole long k =
+    let h = halved strip.rows stride pos below in
+    let two = h.two in
+    let before = room_before strip.rows (strip.rows / stride) (strip.rows / (stride * 2)) h.all (omega arith) h.twice in
+    (kept_same m s strip stride work front (base_of strip (stride * 2)) before (λ j l. sym (ap (λ xs. nth xs j) whole ∙ get_or-append front room 0 j (omega arith))) k, omega arith)
+
 -- one level more keeps the levels above it
-pub one_more : {S E : Type 0} (m : Ghosts S E) {s : S} {strip : Strip} (old new : List ℕ) (e : ℕ) → 2 ^ e * 2 ≤ strip.rows → AllKept m s strip old e → ((j : ℕ) → j < 3 * (strip.rows - strip.rows / (2 ^ e * 2)) → get_or new j 0 ≡ get_or old j 0) → Kept m s (level_at strip (2 ^ e * 2)) new → AllKept m s strip new (e + 1)
-one_more m {s} {strip} old new e le levels same kept d dl = ⊎_elim
+pub one_more : {S E : Type 0} (m : Ghosts S E) (s : S) (strip : Strip) (old new : List ℕ) (e : ℕ) → 2 ^ e * 2 ≤ strip.rows → AllKept m s strip old e → ((j : ℕ) → j < base_of strip (2 ^ e * 2) → get_or new j 0 ≡ get_or old j 0) → Kept m s strip (2 ^ e * 2) new → AllKept m s strip new (e + 1)
+one_more m s strip old new e le levels same kept d dl = ⊎_elim
     (λ (a : d < e + 1).
     let x = halved strip.rows (2 ^ e) (pow_pos e) le in
     let up : 2 ^ d ≤ 2 ^ e = pow_mono {i = d} {j = e} (omega arith) in
     let fewer = fewer_rows strip.rows (2 ^ d) (2 ^ e) (pow_pos d) up in
     let two = x.two in
     let tw = x.twice in
-    kept_same m old new (3 * (strip.rows - strip.rows / (2 ^ e * 2))) (room_before strip.rows (strip.rows / 2 ^ d) (strip.rows / (2 ^ e * 2)) (div-le_self strip.rows (2 ^ d)) (omega arith) (omega arith)) same (levels d (omega arith)))
-    (λ (c : e + 1 ≤ d). let z : e + 1 ≡ d = omega arith in subst (λ k. Kept m s (level_at strip k) new) (sym (pow_next e) ∙ ap (λ k. 2 ^ k) z) kept)
+    kept_same m s strip (2 ^ d) old new (base_of strip (2 ^ e * 2)) (room_before strip.rows (strip.rows / 2 ^ d) (strip.rows / (2 ^ e * 2)) (div-le_self strip.rows (2 ^ d)) (omega arith) (omega arith)) same (levels d (omega arith)))
+    (λ (c : e + 1 ≤ d). let z : e + 1 ≡ d = omega arith in subst (λ k. Kept m s strip k new) (sym (pow_next e) ∙ ap (λ k. 2 ^ k) z) kept)
     (cases_lt d (e + 1))
 
 -- a power of two that is not one is twice another
@@ -130,38 +109,28 @@ pow_half stride e se ne = ⊎_elim
 pub row_one : (i stride : ℕ) → stride ≡ 1 → (i + 1) * stride - 1 ≡ i
 row_one i stride e = let z = ap (λ k. (i + 1) * k) e in omega arith
 
--- A reduction and the number of columns behind it make a level, in its own room.
+-- A reduction of the room at the end of the work list makes a level there.
 pub record Made {S E : Type 0} (m : Ghosts S E) (s : S) (strip : Strip) (stride : ℕ) (old new : List ℕ) : Type 0 where
-  pub kept : Kept m s (level_at strip stride) new
-  pub same : (j : ℕ) → j < 3 * (strip.rows - strip.rows / stride) → get_or new j 0 ≡ get_or old j 0
+  pub kept : Kept m s strip stride new
+  pub same : (j : ℕ) → j < base_of strip stride → nth new j ≡ nth old j
   pub beyond : KeptBeyond strip old new
 
-made_at : {S E : Type 0} (m : Ghosts S E) (laws : Laws m) {s t : S} {strip : Strip} {stride count len : ℕ} {old new : List ℕ} → Stands m s (level_at strip stride) old → length new ≡ length old → 0 < strip.rows / stride → Reduced m s t (level_at strip stride) old new count len → Made m s strip stride old (set new (3 * (strip.rows - strip.rows / stride) + strip.rows / stride) len)
-made_at m laws {strip = strip} {stride = stride} {len = len} {new = new} stands long some r =
-    let n : ℕ = strip.rows / stride in
-    let base : ℕ = 3 * (strip.rows - n) in
-    let few = div-le_self strip.rows stride in
+pub made : {S E : Type 0} (m : Ghosts S E) {s t : S} {strip : Strip} {stride count base : ℕ} {old room room' : List ℕ} (front : List ℕ) → base ≡ base_of strip stride → old ≡ front ++ room → length front ≡ base → Reduced m s t strip stride room room' count → Made m s strip stride old (front ++ room')
+made m {strip = strip} {stride = stride} {old = old} {room = room} {room' = room'} front is whole long r =
+    let all = div-le_self strip.rows stride in
+    let there : (j : ℕ) → nth (front ++ room') (base_of strip stride + j) ≡ nth room' j = λ j. let e : length front + j ≡ base_of strip stride + j = omega arith in ap (nth (front ++ room')) (sym e) ∙ get_or-append-add front room' j 0 in
     record {
-      kept = kept_made m laws new len stands long some r.stack;
-      same = λ j l. get_or-set_other new (base + n) j len 0 (λ e. omega arith) ∙ r.beside.0 j l;
-      beyond = λ j l. get_or-set_other new (base + n) j len 0 (λ e. omega arith) ∙ r.beside.1 j (omega arith);
+      kept = subst (Keeps (every m _ strip stride) (from (front ++ room') (base_of strip stride))) (sym (there (strip.rows / stride))) (keeps_moved (λ j _. there j) r.kept);
+      same = λ j l. get_or-append front room' 0 j (omega arith) ∙ sym (ap (λ xs. nth xs j) whole ∙ get_or-append front room 0 j (omega arith));
+      beyond = λ j l.
+          let e : length front + (j - length front) ≡ j = omega arith in
+          ap (nth (front ++ room')) (sym e) ∙ get_or-append-add front room' (j - length front) 0 ∙ r.beyond (j - length front) (omega arith) ∙ sym (get_or-append-add front room (j - length front) 0) ∙ ap (nth (front ++ room)) e ∙ ap (λ xs. nth xs j) (sym whole);
     }
-
-pub made : {S E : Type 0} (m : Ghosts S E) (laws : Laws m) {s t : S} {strip : Strip} {stride count len : ℕ} {old new : List ℕ} (level : Level) → level ≡ level_at strip stride → Stands m s (level_at strip stride) old → length new ≡ length old → 0 < strip.rows / stride → Reduced m s t level old new count len → Made m s strip stride old (set new (level.base + level.rows) len)
-made m laws {s} {t} {strip} {stride} {count} {len} {old} {new} level e stands long some =
-    subst (λ l. Reduced m s t l old new count len → Made m s strip stride old (set new (l.base + l.rows) len)) (sym e) (made_at m laws stands long some)
-
--- what `fill` asks of a level
-pub record Fillable {S E : Type 0} (m : Ghosts S E) (s : S) (level : Level) (work answers : List ℕ) : Type 0 where
-  pub stands : Stands m s level work
-  pub kept : Kept m s level work
-  pub known : OddRows (grid_of m s level) level.stride answers
-  pub long : level.strip.rows ≤ length answers
 
 -- what the levels down to that of `stride` have once they are answered
 pub record Answered {S E : Type 0} (m : Ghosts S E) (s t : S) (strip : Strip) (stride : ℕ) (old new : List ℕ) : Type 0 where
-  pub answers : (i : ℕ) → i < strip.rows / stride → Answer (grid_of m s (level_at strip stride)) i (get_or new ((i + 1) * stride - 1) 0)
-  pub beyond : (j : ℕ) → strip.rows ≤ j → get_or new j 0 ≡ get_or old j 0
+  pub answers : (i : ℕ) → i < strip.rows / stride → Answer (every m s strip stride) i (get_or new ((i + 1) * stride - 1) 0)
+  pub beyond : KeptFrom old new strip.rows
   pub reads : ReadWithin m (3 * (strip.rows / stride)) s t
 
 bill : (n more len rows half : ℕ) → n ≤ 3 * half → half ≡ rows / 2 → more + 1 ≤ len + (rows - rows / 2) → len ≤ rows → n + more ≤ 3 * rows
@@ -170,21 +139,12 @@ bill n more len rows half a b c d = omega arith
 far : (rows n stride j : ℕ) → n * stride ≤ rows → rows ≤ j → n * stride ≤ j
 far rows n stride j a b = omega arith
 
-module _ {S E : Type 0} (m : Ghosts S E) {s t : S} {strip : Strip} {stride : ℕ} {work answers : List ℕ} (stands : Stands m s (level_at strip stride) work) where
-  pub fillable : ReadWithin m (3 * (strip.rows / (stride * 2))) s t → Kept m s (level_at strip stride) work → OddRows (grid_of m s (level_at strip stride)) stride answers → strip.rows ≤ length answers → Fillable m t (level_at strip stride) work answers
-  fillable r kept known long = record {
-    stands = stands_there m r.2 refl stands;
-    kept = kept_there m stands r.2 kept;
-    known = λ j l. answer_there m stands r.2 (2 * j + 1) _ l (known j l);
-    long = long;
-  }
-
-  pub level_done : {u : S} {new old : List ℕ} → ((x y z : S) → m.passes x y → m.passes y z → m.passes x z) → ReadWithin m (3 * (strip.rows / (stride * 2))) s t → many work (level_at strip stride) ≤ strip.rows / stride → ((j : ℕ) → strip.rows ≤ j → get_or answers j 0 ≡ get_or old j 0) → Filled m t u (level_at strip stride) (many work (level_at strip stride)) answers new → Answered m s u strip stride old new
-  level_done onward r few same f = record {
-    answers = λ i l. answer_back m stands r.2 i _ l (f.answers i l);
-    beyond = λ j l. f.beyond j (far strip.rows (strip.rows / stride) stride j stands.tall l) ∙ same j l;
-    reads = (r.0 + f.reads.0, bill r.0 f.reads.0 (many work (level_at strip stride)) (strip.rows / stride) (strip.rows / (stride * 2)) r.1 (sym (div-div-eq-div-mul strip.rows stride 2)) f.reads.1 few, read_more m onward r.2 f.reads.2);
-  }
+pub level_done : {S E : Type 0} (m : Ghosts S E) {s t u : S} {strip : Strip} {stride len : ℕ} {answers new old : List ℕ} → 0 < stride → Fits m s strip → ((x y z : S) → m.passes x y → m.passes y z → m.passes x z) → ReadWithin m (3 * (strip.rows / (stride * 2))) s t → len ≤ strip.rows / stride → KeptFrom old answers strip.rows → Filled m t u strip stride len answers new → Answered m s u strip stride old new
+level_done m {strip = strip} {stride = stride} {len = len} step fits onward r few same f = record {
+  answers = λ i l. answer_same (every m _ strip stride) (agrees_back m step fits r.2) i _ l (f.answers i l);
+  beyond = λ j l. f.beyond j (far strip.rows (strip.rows / stride) stride j (div-mul-le_self strip.rows stride) l) ∙ same j l;
+  reads = (r.0 + f.reads.0, bill r.0 f.reads.0 len (strip.rows / stride) (strip.rows / (stride * 2)) r.1 (sym (div-div-eq-div-mul strip.rows stride 2)) f.reads.1 few, read_more m onward r.2 f.reads.2);
+}
 
 -- at stride 1 the rows are those of the strip
 pub all_answered : {S E : Type 0} (m : Ghosts S E) {s t : S} {strip : Strip} {stride : ℕ} {old new : List ℕ} → stride ≡ 1 → Answered m s t strip stride old new → Raised m s t strip old new

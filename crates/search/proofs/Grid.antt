@@ -1,7 +1,7 @@
 -- The reduction: what a grid's answers allow to be thrown away. The three moves of a reduction are `pop`, `push` and `pass`.
 use Rattle.std.proofs.Common.{◌≡◌, ℕ, ◌+◌, ◌-◌, ◌<◌, ◌≤◌, true, false, sym, ap, ◌∙◌, subst, ⊎_elim, arith}
 use Rattle.std.proofs.lemmas.Bool.{both_ways, cases_Bool, cases_lt}
-use Rattle.search.specs.Grid.{Grid, Answer, Column, Stack, Holds}
+use Rattle.search.specs.Grid.{Grid, Answer, Column, Stack, Holds, Keeps}
 use Rattle.search.proofs.Least.{WeakOrder, leftmost_exists, leftmost_same}
 
 -- the order is a strict weak one, and the grid is totally monotone
@@ -134,17 +134,6 @@ module _ {E : Type 0} {G : Grid E} (lawful : Lawful G) where
         omega arith
 
 module _ {E : Type 0} (G : Grid E) (st : ℕ → ℕ) where
-  pub stack_none : Stack G st 0 G.first
-  stack_none = record {
-    fits = omega arith;
-    inside = omega arith;
-    rising = λ j l. absurd (omega arith);
-    low = λ j l. absurd (omega arith);
-    below = λ j l. absurd (omega arith);
-    loses = λ j l. absurd (omega arith);
-    kept = λ i c l a cl. let b = a.low in absurd (omega arith);
-  }
-
   -- the topmost column of a stack that has one
   pub top_column : (top next : ℕ) → 0 < top → Stack G st top next → Column G (st (top - 1))
   top_column top next some s = let a = s.below (top - 1) (omega arith) in let b = s.inside in record { low = s.low (top - 1) (omega arith); high = omega arith }
@@ -157,13 +146,19 @@ module _ {E : Type 0} (G : Grid E) (st : ℕ → ℕ) where
     kept = λ i c l a. s.kept i c l a a.high;
   }
 
--- the columns of a stack or of what a level keeps may stand elsewhere
-pub holds_moved : {E : Type 0} {G : Grid E} (st st' : ℕ → ℕ) (count : ℕ) → ((j : ℕ) → j < count → st' j ≡ st j) → Holds G st count → Holds G st' count
-holds_moved {G = G} st st' count e h = record {
-  rising = λ j l. let a = e j (omega arith) in let b = e (j + 1) l in let r = h.rising j l in omega arith;
-  within = λ j l. subst (λ c. Column G c) (sym (e j l)) (h.within j l);
-  kept = λ i c l a. let w = h.kept i c l a in (w.0, w.1, e w.0 w.1 ∙ w.2);
-}
+-- the columns that a level keeps may stand elsewhere
+pub keeps_moved : {E : Type 0} {G : Grid E} {st st' : ℕ → ℕ} {count : ℕ} → ((j : ℕ) → j < count → st' j ≡ st j) → Keeps G st count → Keeps G st' count
+keeps_moved {G = G} e k =
+    let h = k.holds in
+    record {
+      holds = record {
+        rising = λ j l. let a = e j (omega arith) in let b = e (j + 1) l in let r = h.rising j l in omega arith;
+        within = λ j l. subst (λ c. Column G c) (sym (e j l)) (h.within j l);
+        kept = λ i c l a. let w = h.kept i c l a in (w.0, w.1, e w.0 w.1 ∙ w.2);
+      };
+      few = k.few;
+      some = k.some;
+    }
 
 -- the same grid with other entries, which agree where it looks
 abbrev pub with_entry : {E : Type 0} → Grid E → (ℕ → ℕ → E) → Grid E
@@ -176,15 +171,16 @@ module _ {E : Type 0} (G : Grid E) {f h : ℕ → ℕ → E} (agree : Agree G f 
   pub answer_same : (i c : ℕ) → i < G.rows → Answer (with_entry G f) i c → Answer (with_entry G h) i c
   answer_same i c l a = leftmost_same (λ k x y. agree i k l (record { low = x; high = y })) a
 
-module _ {E : Type 0} (G : Grid E) {f h : ℕ → ℕ → E} (agree : Agree G f h) where
-  back : Agree G h f
-  back i c l x = sym (agree i c l x)
+  back : (i c : ℕ) → i < G.rows → Answer (with_entry G h) i c → Answer (with_entry G f) i c
+  back i c l a = leftmost_same (λ k x y. sym (agree i k l (record { low = x; high = y }))) a
 
-  pub holds_same : (st : ℕ → ℕ) (count : ℕ) → Holds (with_entry G f) st count → Holds (with_entry G h) st count
-  holds_same st count k = record { rising = k.rising; within = λ j l. let w = k.within j l in record { low = w.low; high = w.high }; kept = λ i c l a. k.kept i c l (answer_same G back i c l a) }
+  pub keeps_same : {st : ℕ → ℕ} {count : ℕ} → Keeps (with_entry G f) st count → Keeps (with_entry G h) st count
+  keeps_same k =
+      let o = k.holds in
+      record { holds = record { rising = o.rising; within = λ j l. let w = o.within j l in record { low = w.low; high = w.high }; kept = λ i c l a. o.kept i c l (back i c l a) }; few = k.few; some = k.some }
 
-  pub stack_same : (st : ℕ → ℕ) (len next : ℕ) → Stack (with_entry G f) st len next → Stack (with_entry G h) st len next
-  stack_same st len next s =
+  pub stack_same : {st : ℕ → ℕ} {len next : ℕ} → Stack (with_entry G f) st len next → Stack (with_entry G h) st len next
+  stack_same {st = st} {len = len} s =
       let top = s.inside in
       let fits = s.fits in
       let col : (j : ℕ) → j < len → Column G (st j) = λ j l. let b = s.below j l in record { low = s.low j l; high = omega arith } in
@@ -194,10 +190,6 @@ module _ {E : Type 0} (G : Grid E) {f h : ℕ → ℕ → E} (agree : Agree G f 
         rising = s.rising;
         low = s.low;
         below = s.below;
-        loses = λ j l.
-            let r : j < G.rows = omega arith in
-            let p = agree j (st (j + 1)) r (col (j + 1) l) in
-            let q = agree j (st j) r (col j (omega arith)) in
-            subst (λ x. G.before x (h j (st j)) ≡ false) p (subst (λ x. G.before (f j (st (j + 1))) x ≡ false) q (s.loses j l));
-        kept = λ i c l a. s.kept i c l (answer_same G back i c l a);
+        loses = λ j l. rw (← agree j (st (j + 1)) (omega arith) (col (j + 1) l), ← agree j (st j) (omega arith) (col j (omega arith))) (s.loses j l);
+        kept = λ i c l a. s.kept i c l (back i c l a);
       }

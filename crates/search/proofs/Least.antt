@@ -44,20 +44,16 @@ module _ {E : Type 0} {before : E → E → Bool} (o : WeakOrder before) where
     leftmost = λ k a b. ahead (f (first + n)) (f best) (f k) h (l.least k a b);
   }
 
-  -- one turn of a scan from `first` that has come to `end`: the entry behind it is `here`, and that of the best so far `least`
-  pub scan_takes : (f : ℕ → E) (first end best : ℕ) (here least : E) → first ≤ end → Leftmost before f first (end + 1 - first) best → least ≡ f best → here ≡ f (end + 1) → before here least ≡ true → Leftmost before f first (end + 1 + 1 - first) (end + 1)
-  scan_takes f first end best here least le l p q h =
-      let e : first + (end + 1 - first) ≡ end + 1 = omega arith in
-      let n : (end + 1 - first) + 1 ≡ end + 1 + 1 - first = omega arith in
-      let t : before (f (first + (end + 1 - first))) (f best) ≡ true = rw e (rw (← p, ← q) h) in
-      subst (λ k. Leftmost before f first k (end + 1)) n (subst (λ b. Leftmost before f first (end + 1 - first + 1) b) e (leftmost_takes f first (end + 1 - first) best l t))
+  -- one turn of a scan that has come to entry n, which is `here`: the best so far is `least`
+  pub scan_takes : (f : ℕ → E) (n best : ℕ) (here least : E) → Leftmost before f 0 n best → least ≡ f best → here ≡ f n → before here least ≡ true → Leftmost before f 0 (n + 1) n
+  scan_takes f n best here least l p q h =
+      let e : 0 + n ≡ n = omega arith in
+      subst (λ b. Leftmost before f 0 (n + 1) b) e (leftmost_takes f 0 n best l (rw e (rw (← p, ← q) h)))
 
-  pub scan_keeps : (f : ℕ → E) (first end best : ℕ) (here least : E) → first ≤ end → Leftmost before f first (end + 1 - first) best → least ≡ f best → here ≡ f (end + 1) → before here least ≡ false → Leftmost before f first (end + 1 + 1 - first) best
-  scan_keeps f first end best here least le l p q h =
-      let e : first + (end + 1 - first) ≡ end + 1 = omega arith in
-      let n : (end + 1 - first) + 1 ≡ end + 1 + 1 - first = omega arith in
-      let t : before (f (first + (end + 1 - first))) (f best) ≡ false = rw e (rw (← p, ← q) h) in
-      subst (λ k. Leftmost before f first k best) n (leftmost_keeps f first (end + 1 - first) best l t)
+  pub scan_keeps : (f : ℕ → E) (n best : ℕ) (here least : E) → Leftmost before f 0 n best → least ≡ f best → here ≡ f n → before here least ≡ false → Leftmost before f 0 (n + 1) best
+  scan_keeps f n best here least l p q h =
+      let e : 0 + n ≡ n = omega arith in
+      leftmost_keeps f 0 n best l (rw e (rw (← p, ← q) h))
 
   exists_upto : (f : ℕ → E) (first d : ℕ) → (best : ℕ) × Leftmost before f first (d + 1) best
   exists_upto f first zero = (first, leftmost_of_one f first)
@@ -92,4 +88,15 @@ leftmost_same {before = before} {f = f} {h = h} {best = best} e l =
       high = l.high;
       least = λ k a b. subst (λ x. before x (h best) ≡ false) (e k a b) (subst (λ x. before (f k) x ≡ false) at-best (l.least k a b));
       leftmost = λ k a b. subst (λ x. before (h best) x ≡ true) (e k a (omega arith)) (subst (λ x. before x (f k) ≡ true) at-best (l.leftmost k a b));
+    }
+
+-- a run that is counted from its first entry
+pub leftmost_from : {E : Type 0} {before : E → E → Bool} {f : ℕ → E} {first count best : ℕ} → Leftmost before (λ j. f (first + j)) 0 count best → Leftmost before f first count (first + best)
+leftmost_from {before = before} {f = f} {first = first} {best = best} l =
+    let top = l.high in
+    record {
+      low = omega arith;
+      high = omega arith;
+      least = λ k a b. let e : first + (k - first) ≡ k = omega arith in subst (λ x. before (f x) (f (first + best)) ≡ false) e (l.least (k - first) (omega arith) (omega arith));
+      leftmost = λ k a b. let e : first + (k - first) ≡ k = omega arith in subst (λ x. before (f (first + best)) (f x) ≡ true) e (l.leftmost (k - first) (omega arith) (omega arith));
     }

@@ -1,14 +1,14 @@
 -- A level of a lawful sheet is lawful, and reading the sheet leaves it as it is.
-use Rattle.std.proofs.Common.{◌≡◌, ℕ, ◌+◌, ◌-◌, ◌*◌, ◌<◌, ◌≤◌, Bool, true, List, length, sym, ap, ◌∙◌, arith}
+use Rattle.std.proofs.Common.{◌≡◌, ℕ, ◌+◌, ◌/◌, ◌<◌, ◌≤◌, Bool, true, sym, arith, div-mul-le_self}
 use Rattle.search.specs.declared.sheet.Sheet.{Ghosts}
 use Rattle.search.specs.declared.strip.Strip.{Strip}
-use Rattle.search.specs.declared.level.Level.{Level}
 use Rattle.search.specs.Search.{Fits}
-use Rattle.search.specs.Grid.{Column, Stack}
-use Rattle.search.specs.Levels.{Stands, grid_of, row_of, from}
+use Rattle.search.specs.Strips.{Inside}
+use Rattle.search.specs.Grid.{Column}
+use Rattle.search.specs.Levels.{every, row_of}
 use Rattle.search.specs.Steps.{HasPlace, Read}
 use Rattle.search.proofs.Least.{WeakOrder}
-use Rattle.search.proofs.Grid.{Lawful, Agree, stack_same, top_column}
+use Rattle.search.proofs.Grid.{Lawful, Agree}
 use Rattle.search.proofs.Rows.{times_le, times_pos, row_in}
 
 -- the laws of the trait, as a proof has them
@@ -24,60 +24,49 @@ fits_there m r f =
     let columns = f.columns_in in
     record { some_row = f.some_row; some_column = f.some_column; rows_in = omega arith; columns_in = omega arith }
 
--- the list is as long as before
-pub stands_there : {S E : Type 0} (m : Ghosts S E) {n : ℕ} {s t : S} {level : Level} {work work' : List ℕ} → Read m n s t → length work' ≡ length work → Stands m s level work → Stands m t level work'
-stands_there m r e h = let room = h.room in record { step = h.step; tall = h.tall; fits = fits_there m r h.fits; low = h.low; narrow = h.narrow; room = omega arith }
+-- a sheet is no taller and no wider than the largest, and so is what lies in it
+pub within_largest : {S E : Type 0} (m : Ghosts S E) {s : S} {strip : Strip} → m.rows s ≤ 512 → m.columns s ≤ 1023 → Fits m s strip → Inside strip 512 1023
+within_largest m low narrow f =
+    let rows = f.rows_in in
+    let columns = f.columns_in in
+    record { some_row = f.some_row; some_column = f.some_column; rows_in = omega arith; columns_in = omega arith }
 
-module _ {S E : Type 0} (m : Ghosts S E) {s : S} {level : Level} {work : List ℕ} (stands : Stands m s level work) where
+module _ {S E : Type 0} (m : Ghosts S E) {s : S} {strip : Strip} {stride : ℕ} (step : 0 < stride) (fits : Fits m s strip) where
   -- a row of the level and a column that it looks at are a place of the sheet
-  pub row_below : (i : ℕ) → i < level.rows → (i + 1) * level.stride ≤ level.strip.rows
-  row_below i l = let a = times_le (i + 1) level.rows level.stride (omega arith) in let b = stands.tall in omega arith
-
-  pub level_place : (i c : ℕ) → i < level.rows → Column (grid_of m s level) c → HasPlace m s (row_of level i) c
+  pub level_place : (i c : ℕ) → i < strip.rows / stride → Column (every m s strip stride) c → HasPlace m s (row_of strip stride i) c
   level_place i c l col =
-      let a = row_below i l in
-      let b = times_pos i level.stride stands.step in
-      let f = stands.fits.rows_in in
-      let h = stands.fits.columns_in in
+      let a = times_le (i + 1) (strip.rows / stride) stride (omega arith) in
+      let t = div-mul-le_self strip.rows stride in
+      let b = times_pos i stride step in
+      let f = fits.rows_in in
+      let h = fits.columns_in in
       let x = col.high in
       record { row_in = omega arith; column_in = omega arith }
 
-  pub level_agrees : {n : ℕ} {t : S} → Read m n s t → Agree (grid_of m s level) (grid_of m s level).entry (grid_of m t level).entry
-  level_agrees r i c l col = let p = level_place i c l col in sym (r.at_same (row_of level i) c p.row_in p.column_in)
+  -- the level of a sheet and of what reads make of it agree, both ways
+  pub level_agrees : {n : ℕ} {t : S} → Read m n s t → Agree (every m s strip stride) (every m s strip stride).entry (every m t strip stride).entry
+  level_agrees r i c l col = let p = level_place i c l col in sym (r.at_same (row_of strip stride i) c p.row_in p.column_in)
 
-  pub agrees_back : {n : ℕ} {t : S} → Read m n s t → Agree (grid_of m s level) (grid_of m t level).entry (grid_of m s level).entry
+  pub agrees_back : {n : ℕ} {t : S} → Read m n s t → Agree (every m s strip stride) (every m t strip stride).entry (every m s strip stride).entry
   agrees_back r i c l col = sym (level_agrees r i c l col)
 
-  pub stack_there : {n : ℕ} {t : S} → Read m n s t → (st : ℕ → ℕ) (len next : ℕ) → Stack (grid_of m s level) st len next → Stack (grid_of m t level) st len next
-  stack_there r = stack_same (grid_of m s level) (level_agrees r)
+  -- what two columns say of each other after some reads, they would have said before
+  pub said_before : {n : ℕ} {t : S} → Read m n s t → (i a b row : ℕ) → i < strip.rows / stride → Column (every m s strip stride) a → Column (every m s strip stride) b → row ≡ row_of strip stride i → (said : Bool) → said ≡ m.before (m.at t row b) (m.at t row a) → m.before (m.at s (row_of strip stride i) b) (m.at s (row_of strip stride i) a) ≡ said
+  said_before r i a b row l left right e said h = rw (level_agrees r i a l left, level_agrees r i b l right, ← e) (sym h)
 
-  pub stack_back : {n : ℕ} {t : S} → Read m n s t → (st : ℕ → ℕ) (len next : ℕ) → Stack (grid_of m t level) st len next → Stack (grid_of m s level) st len next
-  stack_back r = stack_same (grid_of m s level) (agrees_back r)
-
-  -- what the topmost column of a stack and the next one say of each other after some reads, they would have said before
-  pub top_said : {n : ℕ} {t : S} → Read m n s t → (top x : ℕ) → 0 < top → Stack (grid_of m s level) (from work level.base) top x → Column (grid_of m s level) x → (row : ℕ) → row ≡ row_of level (top - 1) → (said : Bool) → said ≡ m.before (m.at t row x) (m.at t row (from work level.base (top - 1))) → m.before (m.at s (row_of level (top - 1)) x) (m.at s (row_of level (top - 1)) (from work level.base (top - 1))) ≡ said
-  top_said {t = t} r top x some stack col row e said h =
-      let fits = stack.fits in
-      let l : top - 1 < level.rows = omega arith in
-      let old : ℕ = from work level.base (top - 1) in
-      let left = level_agrees r (top - 1) old l (top_column (grid_of m s level) (from work level.base) top x some stack) in
-      let right = level_agrees r (top - 1) x l col in
-      ap (λ y. m.before y (m.at s (row_of level (top - 1)) old)) right ∙ ap (m.before (m.at t (row_of level (top - 1)) x)) left ∙ ap (λ k. m.before (m.at t k x) (m.at t k old)) (sym e) ∙ sym h
-
-  pub level_lawful : Laws m → Lawful (grid_of m s level)
+  pub level_lawful : Laws m → Lawful (every m s strip stride)
   level_lawful laws = record {
     order = laws.order;
     monotone = λ i j a b ij jn col ab t.
         let p = level_place j b jn col in
-        laws.monotone s (row_of level i) (row_of level j) a b (rises i j ij) p.row_in ab p.column_in t;
+        laws.monotone s (row_of strip stride i) (row_of strip stride j) a b (rises i j ij) p.row_in ab p.column_in t;
   }
     where
-      rises : (i j : ℕ) → i < j → row_of level i < row_of level j
+      rises : (i j : ℕ) → i < j → row_of strip stride i < row_of strip stride j
       rises i j l =
-          let a = times_le (i + 1 + 1) (j + 1) level.stride (omega arith) in
-          let b = times_pos i level.stride stands.step in
-          let c = row_in i (i + 1 + 1) level.stride stands.step (omega arith) in
-          let step = stands.step in
-          let d = native.Mathlib.Nat.add-mul (i + 1) 1 level.stride in
-          let e = native.Mathlib.Nat.one-mul level.stride in
+          let a = times_le (i + 1 + 1) (j + 1) stride (omega arith) in
+          let b = times_pos i stride step in
+          let c = row_in i (i + 1 + 1) stride step (omega arith) in
+          let d = native.Mathlib.Nat.add-mul (i + 1) 1 stride in
+          let e = native.Mathlib.Nat.one-mul stride in
           omega arith

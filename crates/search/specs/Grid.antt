@@ -25,6 +25,12 @@ pub record Holds {E : Type 0} (G : Grid E) (st : ℕ → ℕ) (count : ℕ) : Ty
   pub within : (j : ℕ) → j < count → Column G (st j)
   pub kept : (i c : ℕ) → i < G.rows → Answer G i c → (j : ℕ) × (j < count) × (st j ≡ c)
 
+-- what a level keeps of the columns that it looks at: some, no more than it has rows, and the answer of every row among them
+pub record Keeps {E : Type 0} (G : Grid E) (st : ℕ → ℕ) (count : ℕ) : Type 0 where
+  pub holds : Holds G st count
+  pub few : count ≤ G.rows
+  pub some : 0 < count
+
 -- The stack of a reduction that has come to column `next`: its columns rise, the one at place j + 1 loses to the one below it
 -- in row j, and every answer to the left of `next` is in the stack.
 pub record Stack {E : Type 0} (G : Grid E) (st : ℕ → ℕ) (len next : ℕ) : Type 0 where

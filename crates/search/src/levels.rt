@@ -1,47 +1,49 @@
 //! The levels of a search, made downwards by reducing and answered upwards by scanning.
 ghost use Rattle.std.specs.Prelude.{◌≡◌, ℕ, ◌+◌, ◌-◌, ◌*◌, ◌/◌, ◌^◌, ◌<◌, ◌≤◌, length};
-ghost use Rattle.search.specs.Search.{Fits};
-ghost use Rattle.search.specs.Levels.{Kept, AllKept, level_at};
+ghost use Rattle.search.specs.Levels.{Ready, Kept, AllKept};
 ghost use Rattle.search.specs.Steps.{Started, Deepened, Lowered, Raised};
 
 use crate::level::Level;
-use crate::reduce::{reduce_kept, reduce_strip};
+use crate::reduce::reduce;
 use crate::scan::fill;
 use crate::sheet::Sheet;
 use crate::strip::Strip;
 
+// Sheet, list and strip are passed on and not held in a struct: each method of one would have to promise
+// that it keeps both references and the strip, three clauses for the one that `Ready` is.
+
 /// Makes the first level: all rows of the strip.
 pub(crate) fn start<S: Sheet>(sheet: &mut S, work: &mut [usize], strip: Strip)
-    requires fits { Fits S.Sheet sheet.old strip }
-    requires room { 4 * strip.rows ≤ length work.old }
+    requires ready { Ready S.Sheet sheet.old strip work.old }
     ensures after { Started S.Sheet sheet.old sheet.new strip work.old work.new }
 {
     let level = Level::at(strip, 1);
-    let len = reduce_strip(sheet, work, level);
-    work[level.base + level.rows] = len;
+    let base = level.base();
+    let (_, room) = work.split_at_mut(base);
+    let columns = strip.column..strip.column + strip.columns;
+    reduce(sheet, room, level, columns);
 }
 
 /// Makes the level of every second row of the level of `stride`.
 fn deepen<S: Sheet>(sheet: &mut S, work: &mut [usize], strip: Strip, stride: usize)
-    requires fits { Fits S.Sheet sheet.old strip }
-    requires room { 4 * strip.rows ≤ length work.old }
+    requires ready { Ready S.Sheet sheet.old strip work.old }
     requires step { 0 < stride }
     requires below { stride * 2 ≤ strip.rows }
-    requires kept { Kept S.Sheet sheet.old (level_at strip stride) work.old }
+    requires kept { Kept S.Sheet sheet.old strip stride work.old }
     ensures after { Deepened S.Sheet sheet.old sheet.new strip stride work.old work.new }
 {
     let above = Level::at(strip, stride);
     let level = Level::at(strip, stride * 2);
-    let count = work[above.base + above.rows];
-    let len = reduce_kept(sheet, work, above.base, count, level);
-    work[level.base + level.rows] = len;
+    let base = level.base();
+    let (front, room) = work.split_at_mut(base);
+    let columns = above.kept(front).iter().copied();
+    reduce(sheet, room, level, columns);
 }
 
 /// Makes all levels below the first, and answers the stride of the last, which has one row.
 pub(crate) fn lower<S: Sheet>(sheet: &mut S, work: &mut [usize], strip: Strip) -> usize
-    requires fits { Fits S.Sheet sheet.old strip }
-    requires room { 4 * strip.rows ≤ length work.old }
-    requires kept { Kept S.Sheet sheet.old (level_at strip 1) work.old }
+    requires ready { Ready S.Sheet sheet.old strip work.old }
+    requires kept { Kept S.Sheet sheet.old strip 1 work.old }
     ensures after { Lowered S.Sheet sheet.old sheet.new strip result work.old work.new }
 {
     let mut stride = 1;
@@ -60,8 +62,7 @@ pub(crate) fn raise<S: Sheet>(
     last: usize,
     answers: &mut [usize],
 )
-    requires fits { Fits S.Sheet sheet.old strip }
-    requires room { 4 * strip.rows ≤ length work.now }
+    requires ready { Ready S.Sheet sheet.old strip work.now }
     requires long { strip.rows ≤ length answers.old }
     requires levels { (e : ℕ) × (last ≡ 2 ^ e) × AllKept S.Sheet sheet.old strip work.now e }
     requires end { strip.rows < last * 2 }
@@ -70,8 +71,7 @@ pub(crate) fn raise<S: Sheet>(
     let mut stride = last;
     loop {
         let level = Level::at(strip, stride);
-        let len = work[level.base + level.rows];
-        fill(sheet, work, level, len, answers);
+        fill(sheet, level.kept(work), level, answers);
         if stride == 1 {
             return;
         }

@@ -53,9 +53,7 @@ pub fn search<S: Sheet>(
 }
 
 /// Under the order of any sheet, and so any strict weak order, a run of entries has one leftmost least entry and no second.
-pub fn leftmost_stands<S: Sheet>() -> u8
+pub fn leftmost_stands<S: Sheet>()
     ensures there { LeftmostIsThere S.Sheet.before }
     ensures one { LeftmostIsOne S.Sheet.before }
-{
-    0
-}
+{}

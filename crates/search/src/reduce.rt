@@ -1,8 +1,10 @@
 //! The reduction: of the columns of a level, those that can still hold a row's answer, at most one for each row.
-ghost use Rattle.std.specs.Prelude.{◌≡◌, ℕ, ◌+◌, ◌-◌, ◌*◌, ◌<◌, ◌≤◌, length};
+ghost use Rattle.std.specs.Prelude.{◌≡◌, ℕ, ◌+◌, ◌-◌, ◌*◌, ◌<◌, ◌≤◌, List, length};
+ghost use Rattle.std.specs.Iterator.{AlwaysYields, IsFinite};
+ghost use Rattle.search.specs.Search.{Fits};
 ghost use Rattle.search.specs.Grid.{Stack, Holds, Column};
-ghost use Rattle.search.specs.Levels.{Stands, grid_of, from};
-ghost use Rattle.search.specs.Steps.{HasPlace, Read, Driven, Offered, Reduced};
+ghost use Rattle.search.specs.Levels.{nth};
+ghost use Rattle.search.specs.Steps.{HasPlace, Read, Driven, Offered, Reduced, grid_of};
 
 use crate::level::Level;
 use crate::sheet::Sheet;
@@ -31,82 +33,65 @@ fn beats<S: Sheet>(sheet: &mut S, row: usize, left: usize, right: usize) -> bool
     S::precedes(&new, &old)
 }
 
+// The stack stands in the room that is lent, with nothing on a heap: so its length goes beside the room.
+
 /// How many columns of the stack are left once `column` has driven out those on top that it beats.
-fn driven<S: Sheet>(sheet: &mut S, work: &[usize], level: Level, len: usize, column: usize) -> usize
-    requires stands { Stands S.Sheet sheet.old level work.now }
-    requires stack { Stack (grid_of S.Sheet sheet.old level) (from work.now level.base) len column }
+fn driven<S: Sheet>(sheet: &mut S, room: &[usize], level: Level, len: usize, column: usize) -> usize
+    requires fits { Fits S.Sheet sheet.old level.strip }
+    requires room { level.rows < length room.now }
+    requires stack { Stack (grid_of S.Sheet sheet.old level) (nth room.now) len column }
     requires inside { Column (grid_of S.Sheet sheet.old level) column }
-    ensures after { Driven S.Sheet sheet.old sheet.new level work.now len column result }
+    ensures after { Driven S.Sheet sheet.old sheet.new level room.now len column result }
 {
-    let mut top = len;
-    while top > 0 {
-        if !beats(
-            sheet,
-            level.row(top - 1),
-            work[level.base + (top - 1)],
-            column,
-        ) {
-            return top;
+    for top in (0..len).rev() {
+        if !beats(sheet, level.row(top), room[top], column) {
+            return top + 1;
         }
-        top -= 1;
     }
-    top
+    0
 }
 
 /// Offers a column to the stack, and answers how many columns the stack has then.
 fn offer<S: Sheet>(
     sheet: &mut S,
-    work: &mut [usize],
+    room: &mut [usize],
     level: Level,
     len: usize,
     column: usize,
 ) -> usize
-    requires stands { Stands S.Sheet sheet.old level work.old }
-    requires some { 0 < level.rows }
-    requires stack { Stack (grid_of S.Sheet sheet.old level) (from work.old level.base) len column }
+    requires fits { Fits S.Sheet sheet.old level.strip }
+    requires room { level.rows < length room.old }
+    requires stack { Stack (grid_of S.Sheet sheet.old level) (nth room.old) len column }
     requires inside { Column (grid_of S.Sheet sheet.old level) column }
-    ensures after { Offered S.Sheet sheet.old sheet.new level work.old work.new len column result }
+    ensures after { Offered S.Sheet sheet.old sheet.new level room.old room.new len column result }
 {
-    let top = driven(sheet, work, level, len, column);
+    let top = driven(sheet, room, level, len, column);
     if top < level.rows {
-        work[level.base + top] = column;
+        room[top] = column;
         return top + 1;
     }
     top
 }
 
-/// Reduces all columns of the strip, and answers how many the level keeps.
-pub(crate) fn reduce_strip<S: Sheet>(sheet: &mut S, work: &mut [usize], level: Level) -> usize
-    requires stands { Stands S.Sheet sheet.old level work.old }
-    requires some { 0 < level.rows }
-    ensures after { Reduced S.Sheet sheet.old sheet.new level work.old work.new level.strip.columns result }
-{
-    let first = level.strip.column;
-    let mut len = 0;
-    for column in first..first + level.strip.columns {
-        len = offer(sheet, work, level, len, column);
-    }
-    len
-}
-
-/// Reduces the `count` columns that another level keeps from `source` on, and answers how many this one keeps.
-pub(crate) fn reduce_kept<S: Sheet>(
+/// Reduces columns that have all answers among them to those that the level keeps, and writes how many these are behind their places.
+pub(crate) fn reduce<S: Sheet, I: Iterator<Item = usize> + Drop>(
     sheet: &mut S,
-    work: &mut [usize],
-    source: usize,
-    count: usize,
+    room: &mut [usize],
     level: Level,
-) -> usize
-    requires stands { Stands S.Sheet sheet.old level work.old }
-    requires some { 0 < level.rows }
-    requires holds { Holds (grid_of S.Sheet sheet.old level) (from work.old source) count }
-    requires apart { source + count ≤ level.base }
-    ensures after { Reduced S.Sheet sheet.old sheet.new level work.old work.new count result }
+    columns: I,
+)
+    ghost offered: { List ℕ }
+    requires fits { Fits S.Sheet sheet.old level.strip }
+    requires room { level.rows < length room.old }
+    requires can { I.can_next columns }
+    requires ends { IsFinite (I.remaining columns) }
+    requires gives { AlwaysYields I.next_gives (λ c. c) columns offered }
+    requires holds { Holds (grid_of S.Sheet sheet.old level) (nth offered) (length offered) }
+    ensures after { Reduced S.Sheet sheet.old sheet.new level.strip level.stride room.old room.new (length offered) }
 {
     let mut len = 0;
-    for p in 0..count {
-        let column = work[source + p];
-        len = offer(sheet, work, level, len, column);
+    for column in columns {
+        len = offer(sheet, room, level, len, column);
     }
-    len
+    room[level.rows] = len;
 }

@@ -1,78 +1,62 @@
 //! The scans: the answers of every second row of a level, each between those of its neighbours.
 ghost use Rattle.std.specs.Prelude.{◌≡◌, ℕ, ◌+◌, ◌-◌, ◌*◌, ◌/◌, ◌<◌, ◌≤◌, length, slice_index};
-ghost use Rattle.search.specs.Grid.{Answer, Holds};
-ghost use Rattle.search.specs.Levels.{Stands, grid_of, from};
-ghost use Rattle.search.specs.Steps.{HasPlace, Between, Filled};
+ghost use Rattle.search.specs.Search.{Fits};
+ghost use Rattle.search.specs.Grid.{Answer, Keeps};
+ghost use Rattle.search.specs.Levels.{nth};
+ghost use Rattle.search.specs.Steps.{HasPlace, Reaches, Scanned, Filled, grid_of};
 
 use crate::level::Level;
 use crate::reduce::read;
 use crate::sheet::Sheet;
 
-/// Goes over the `len` columns that stand from `base` on, from place `first` to the first that reaches column `last`.
-/// Answers the place of the leftmost least entry of the row among them, and the place where it stopped.
-fn least_between<S: Sheet>(
-    sheet: &mut S,
-    work: &[usize],
-    base: usize,
-    len: usize,
-    first: usize,
-    last: usize,
-    row: usize,
-) -> (usize, usize)
-    requires starts { first < len }
-    requires room { base + len ≤ length work.now }
-    requires places { (j : ℕ) → j < len → HasPlace S.Sheet sheet.old row (from work.now base j) }
-    ensures after { Between S.Sheet sheet.old sheet.new work.now base len first last row result.0 result.1 }
+/// The place of the first column that reaches column `last`, or of the last one.
+fn reach(columns: &[usize], last: usize) -> usize
+    requires { 0 < length columns.now }
+    ensures { Reaches columns.now last result }
 {
-    let mut best = first;
-    let mut end = first;
-    let mut least = read(sheet, row, work[base + first]);
-    while end + 1 < len && work[base + end] < last {
-        end += 1;
-        let here = read(sheet, row, work[base + end]);
+    columns
+        .iter()
+        .position(|column| *column >= last)
+        .unwrap_or(columns.len() - 1)
+}
+
+/// The column of the leftmost least entry of a row among some columns.
+fn least_of<S: Sheet>(sheet: &mut S, columns: &[usize], row: usize) -> usize
+    requires some { 0 < length columns.now }
+    requires places { (j : ℕ) → j < length columns.now → HasPlace S.Sheet sheet.old row (nth columns.now j) }
+    ensures after { Scanned S.Sheet sheet.old sheet.new columns.now row result }
+{
+    let mut best = columns[0];
+    let mut least = read(sheet, row, best);
+    for column in &columns[1..] {
+        let here = read(sheet, row, *column);
         if S::precedes(&here, &least) {
-            best = end;
+            best = *column;
             least = here;
         }
     }
-    (best, end)
+    best
 }
 
 /// Writes the answers of a level's rows, given those of every second row and the columns that the level keeps.
-pub(crate) fn fill<S: Sheet>(
-    sheet: &mut S,
-    work: &[usize],
-    level: Level,
-    len: usize,
-    answers: &mut [usize],
-)
-    requires stands { Stands S.Sheet sheet.old level work.now }
-    requires holds { Holds (grid_of S.Sheet sheet.old level) (from work.now level.base) len }
-    requires some { 0 < len }
-    requires few { len ≤ level.rows }
+pub(crate) fn fill<S: Sheet>(sheet: &mut S, kept: &[usize], level: Level, answers: &mut [usize])
+    requires fits { Fits S.Sheet sheet.old level.strip }
+    requires keeps { Keeps (grid_of S.Sheet sheet.old level) (nth kept.now) (length kept.now) }
     requires known { (j : ℕ) → 2 * j + 1 < level.rows → Answer (grid_of S.Sheet sheet.old level) (2 * j + 1) (slice_index answers.old ((2 * j + 1 + 1) * level.stride - 1)) }
     requires long { level.strip.rows ≤ length answers.old }
-    ensures after { Filled S.Sheet sheet.old sheet.new level len answers.old answers.new }
+    ensures after { Filled S.Sheet sheet.old sheet.new level.strip level.stride (length kept.now) answers.old answers.new }
 {
     let mut place = 0;
-    for p in 0..level.rows - level.rows / 2 {
+    for p in 0..level.rows.div_ceil(2) {
         let at = (2 * p + 1) * level.stride - 1;
         let last = if 2 * p + 1 < level.rows {
             answers[at + level.stride]
         } else {
-            work[level.base + (len - 1)]
+            kept[kept.len() - 1]
         };
-        let (best, end) = least_between(
-            sheet,
-            work,
-            level.base,
-            len,
-            place,
-            last,
-            level.strip.row + at,
-        );
-        let column = work[level.base + best];
-        answers[at] = column;
-        place = end;
+        let columns = &kept[place..];
+        let end = reach(columns, last);
+        answers[at] = least_of(sheet, &columns[..end + 1], level.strip.row + at);
+        place += end;
     }
 }

@@ -6,14 +6,13 @@ ghost use Rattle.std.proofs.lemmas.Bool.{ltb-true, lt-ltb};
 ghost use Rattle.search_tests.specs.GapsLemmas.{nearer_stays_nearer, later_block};
 ghost use Rattle.std.proofs.Common.{rules};
 
+use counter::Counter;
 use refusal::Refusal;
 use search::sheet::Sheet;
 
 const MOST_ROWS: usize = 512;
 
 const MOST_COLUMNS: usize = 1023;
-
-const MOST_READS: u64 = 0x7fff_ffff_ffff_ffff;
 
 /// How many rows and columns a sheet has, `tall` rows and `wide` columns to a block.
 #[derive(Clone, Copy)]
@@ -37,19 +36,18 @@ pub struct Gap {
 #[derive(Drop)]
 pub struct Blocks {
     shape: Shape,
-    ledger: u64,
+    reads: Counter,
     ghost low: { shape.rows ≤ 512 },
     ghost narrow: { shape.columns ≤ 1023 },
     ghost thick: { 0 < shape.tall },
     ghost broad: { 0 < shape.wide },
-    ghost capped: { ledger ≤ 2 ^ 63 - 1 },
 }
 
 impl Blocks {
     /// A sheet of this shape, as far as a sheet may have it, with this ledger.
     pub fn new(shape: Shape, ledger: u64) -> Blocks
         ensures shape { result.shape ≡ within shape }
-        ensures ledger { result.ledger ≡ min ledger (2 ^ 63 - 1) }
+        ensures ledger { result.reads.told ≡ min ledger (2 ^ 63 - 1) }
     {
         Blocks {
             shape: Shape {
@@ -58,7 +56,7 @@ impl Blocks {
                 tall: shape.tall.max(1),
                 wide: shape.wide.max(1),
             },
-            ledger: ledger.min(MOST_READS),
+            reads: Counter::from_told(ledger),
         }
     }
 }
@@ -84,9 +82,9 @@ impl Sheet for Blocks {
 
     ghost at = { λ s i j. gap_at s.shape.tall s.shape.wide i j };
 
-    ghost ledger = { λ s. s.ledger };
+    ghost ledger = { λ s. s.reads.told };
 
-    ghost passes = { λ s t. s.ledger ≤ t.ledger };
+    ghost passes = { λ s t. s.reads.told ≤ t.reads.told };
 
     ghost irreflexive = { Prim.search rules };
 
@@ -119,16 +117,14 @@ impl Sheet for Blocks {
     }
 
     fn ledger(&self) -> u64 {
-        self.ledger
+        self.reads.told()
     }
 
     fn entry(&mut self, row: usize, column: usize) -> Result<Gap, Refusal> {
         if row >= self.shape.rows || column >= self.shape.columns {
             return Err(Refusal::NoSuchPlace);
         }
-        if self.ledger < MOST_READS {
-            self.ledger += 1;
-        }
+        self.reads.raise();
         let square = squared(row / self.shape.tall, column / self.shape.wide);
         Ok(Gap { square, column })
     }

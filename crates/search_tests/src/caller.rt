@@ -19,8 +19,6 @@ pub fn least_in_row<S: Sheet>(sheet: &mut S, row: usize) -> Result<usize, Refusa
     };
     let mut answers = [0; 1];
     let mut work = [0; 4];
-    match search(sheet, whole, &mut answers, &mut work) {
-        Ok(_) => Ok(answers[0]),
-        Err(why) => Err(why),
-    }
+    search(sheet, whole, &mut answers, &mut work)?;
+    Ok(answers[0])
 }

@@ -61,6 +61,13 @@ const TALL_BLOCKS: Shape = Shape {
     wide: 3,
 };
 
+const NOTHING: Shape = Shape {
+    rows: 0,
+    columns: 0,
+    tall: 1,
+    wide: 1,
+};
+
 // A strip as four numbers: its first row, its rows, its first column, its columns.
 type Sides = [usize; 4];
 
@@ -107,6 +114,7 @@ const WRONG_STRIPS: [Sides; 18] = [
     [usize::MAX, usize::MAX, usize::MAX, usize::MAX],
 ];
 
+// `Strip` and the array are both of other crates, so this is no `From`.
 fn strip_of(sides: Sides) -> Strip {
     let [row, rows, column, columns] = sides;
     Strip {
@@ -117,172 +125,149 @@ fn strip_of(sides: Sides) -> Strip {
     }
 }
 
-/// A search over lists of these lengths that nothing was written to, and how far the ledger rose.
+/// A search of a strip over lists of so many places.
+#[derive(Clone, Copy)]
+struct Case {
+    shape: Shape,
+    strip: Strip,
+    answers: usize,
+    work: usize,
+}
+
+/// A case tried with lists that nothing was written to, and how far the ledger rose.
 #[derive(Drop)]
 struct Trial {
+    sheet: Blocks,
     answer: Result<u64, Refusal>,
     risen: u64,
     answers: Vec<usize>,
     work: Vec<usize>,
 }
 
-fn tried(
-    heap: Global,
-    sheet: &mut Blocks,
-    strip: Strip,
-    answers: usize,
-    work: usize,
-) -> Result<Trial, AllocError> {
-    let mut answers = vec![in heap; UNTOUCHED; answers]?;
-    let mut work = vec![in heap; UNTOUCHED; work]?;
-    let before = sheet.ledger();
-    let answer = search(sheet, strip, answers.as_mut_slice(), work.as_mut_slice());
-    let risen = sheet.ledger().wrapping_sub(before);
-    Ok(Trial {
-        answer,
-        risen,
-        answers,
-        work,
-    })
+impl Case {
+    /// Over lists that have so many places more than are needed.
+    fn with_spare(shape: Shape, sides: Sides, spare: usize) -> Case {
+        let strip = strip_of(sides);
+        Case {
+            shape,
+            strip,
+            answers: strip.rows.saturating_add(spare),
+            work: strip.rows.saturating_mul(4).saturating_add(spare),
+        }
+    }
+
+    fn tried(self, heap: Global, ledger: u64) -> Result<Trial, AllocError> {
+        let mut sheet = Blocks::new(self.shape, ledger);
+        let mut answers = vec![in heap; UNTOUCHED; self.answers]?;
+        let mut work = vec![in heap; UNTOUCHED; self.work]?;
+        let before = sheet.ledger();
+        let answer = search(
+            &mut sheet,
+            self.strip,
+            answers.as_mut_slice(),
+            work.as_mut_slice(),
+        );
+        let risen = sheet.ledger().wrapping_sub(before);
+        Ok(Trial {
+            sheet,
+            answer,
+            risen,
+            answers,
+            work,
+        })
+    }
+
+    /// Tries a search that has to be answered.
+    fn answered(self, rt: &impl Abort, heap: Global) -> Result<(), Fail> {
+        let Strip {
+            row,
+            rows,
+            columns,
+            ..
+        } = self.strip;
+        assert!(rt; row <= 512 && rows <= 512 && columns <= 1023);
+        let mut done = self.tried(heap, 0)?;
+        let told = done.answer?;
+        assert_eq!(rt; told, done.risen);
+        assert!(rt; told <= (4 * columns + 12 * rows) as u64);
+        assert!(rt; untouched(&done.answers, rows), "answers past the last row");
+        assert!(rt;
+            untouched(&done.work, 4 * rows),
+            "work past four places a row"
+        );
+        for (row, answer) in (row..row + rows).zip(&done.answers) {
+            assert_eq!(rt; *answer, scanned(&mut done.sheet, self.strip, row)?);
+        }
+        Ok(())
+    }
+
+    /// Tries a search that has to be refused, with nothing written and nothing read.
+    fn refused(self, rt: &impl Abort, heap: Global, why: Refusal) -> Result<(), Fail> {
+        let done = self.tried(heap, 5)?;
+        assert_eq!(rt; done.answer, Err(why));
+        assert_eq!(rt; done.risen, 0);
+        assert!(rt; untouched(&done.answers, 0), "answers of a refused search");
+        assert!(rt; untouched(&done.work, 0), "work of a refused search");
+        Ok(())
+    }
 }
 
 /// Whether nothing was written to a list from a place on.
 fn untouched(list: &[usize], from: usize) -> bool {
-    for place in list.iter().skip(from) {
-        if *place != UNTOUCHED {
-            return false;
-        }
-    }
-    true
+    list.iter().skip(from).all(|place| *place == UNTOUCHED)
 }
 
 /// The leftmost least column of a row of a strip, by a plain scan of all its columns.
 fn scanned(sheet: &mut Blocks, strip: Strip, row: usize) -> Result<usize, Refusal> {
-    let mut best = strip.column;
-    let mut least = sheet.entry(row, best)?;
+    let mut least = sheet.entry(row, strip.column)?;
     for column in strip.column..strip.column.saturating_add(strip.columns) {
         let here = sheet.entry(row, column)?;
         if <Blocks as Sheet>::precedes(&here, &least) {
-            best = column;
             least = here;
         }
     }
-    Ok(best)
-}
-
-/// Tries an answered search whose lists have this many places more than are needed.
-fn answered(
-    rt: &impl Abort,
-    heap: Global,
-    shape: Shape,
-    strip: Strip,
-    spare: usize,
-) -> Result<(), Fail> {
-    let Strip {
-        row,
-        rows,
-        columns,
-        ..
-    } = strip;
-    assert!(rt; row <= 512 && rows <= 512 && columns <= 1023 && spare <= 9);
-    let mut sheet = Blocks::new(shape, 0);
-    let done = tried(heap, &mut sheet, strip, rows + spare, 4 * rows + spare)?;
-    let told = done.answer?;
-    assert_eq!(rt; told, done.risen);
-    assert!(rt; told <= (4 * columns + 12 * rows) as u64);
-    assert!(rt; untouched(&done.answers, rows), "answers past the last row");
-    assert!(rt;
-        untouched(&done.work, 4 * rows),
-        "work past four places a row"
-    );
-    for t in 0..rows {
-        let column = scanned(&mut sheet, strip, row + t)?;
-        assert_eq!(rt; done.answers.get(t).copied(), Some(column));
-    }
-    Ok(())
-}
-
-/// Tries a search that has to be refused, with nothing written and nothing read.
-fn refused(
-    rt: &impl Abort,
-    heap: Global,
-    shape: Shape,
-    strip: Strip,
-    answers: usize,
-    work: usize,
-    why: Refusal,
-) -> Result<(), Fail> {
-    let mut sheet = Blocks::new(shape, 5);
-    let done = tried(heap, &mut sheet, strip, answers, work)?;
-    assert_eq!(rt; done.answer, Err(why));
-    assert_eq!(rt; done.risen, 0);
-    assert!(rt; untouched(&done.answers, 0), "answers of a refused search");
-    assert!(rt; untouched(&done.work, 0), "work of a refused search");
-    Ok(())
+    Ok(least.column)
 }
 
 #[test]
 fn strips_agree_with_a_plain_scan(rt: HostRuntime) -> Result<(), Fail> {
     for (shape, sides) in STRIPS {
-        answered(&rt, rt.alloc(), shape, strip_of(sides), 0)?;
-        answered(&rt, rt.alloc(), shape, strip_of(sides), 3)?;
+        Case::with_spare(shape, sides, 0).answered(&rt, rt.alloc())?;
+        Case::with_spare(shape, sides, 3).answered(&rt, rt.alloc())?;
     }
     Ok(())
 }
 
 #[test]
 fn answers_known_by_hand(rt: HostRuntime) -> Result<(), Fail> {
-    let mut gaps = Blocks::new(SQUARED_GAP, 0);
-    let done = tried(rt.alloc(), &mut gaps, strip_of([0, 9, 0, 7]), 9, 36)?;
-    assert!(rt; done.answers.as_slice() == [0, 1, 2, 3, 4, 5, 6, 6, 6].as_slice());
-    let mut pairs = Blocks::new(PAIRS_LEVEL, 0);
-    let done = tried(rt.alloc(), &mut pairs, strip_of([2, 4, 5, 20]), 4, 16)?;
-    assert!(rt; done.answers.as_slice() == [5, 6, 8, 10].as_slice());
-    let mut level = Blocks::new(ALL_LEVEL, 0);
-    let done = tried(rt.alloc(), &mut level, strip_of([4, 5, 9, 17]), 5, 20)?;
-    assert!(rt; done.answers.as_slice() == [9, 9, 9, 9, 9].as_slice());
+    let gaps = Case::with_spare(SQUARED_GAP, [0, 9, 0, 7], 0).tried(rt.alloc(), 0)?;
+    assert!(rt; gaps.answers.as_slice() == [0, 1, 2, 3, 4, 5, 6, 6, 6].as_slice());
+    let pairs = Case::with_spare(PAIRS_LEVEL, [2, 4, 5, 20], 0).tried(rt.alloc(), 0)?;
+    assert!(rt; pairs.answers.as_slice() == [5, 6, 8, 10].as_slice());
+    let level = Case::with_spare(ALL_LEVEL, [4, 5, 9, 17], 0).tried(rt.alloc(), 0)?;
+    assert!(rt; level.answers.as_slice() == [9, 9, 9, 9, 9].as_slice());
     Ok(())
 }
 
 #[test]
 fn wrong_strips_are_refused_before_short_lists(rt: HostRuntime) -> Result<(), Fail> {
-    let nothing = Shape {
-        rows: 0,
-        columns: 0,
-        tall: 1,
-        wide: 1,
-    };
+    let lists = [
+        (SQUARED_GAP, 20, 80),
+        (SQUARED_GAP, 0, 0),
+        (NOTHING, 20, 80),
+    ];
     for sides in WRONG_STRIPS {
-        let strip = strip_of(sides);
-        refused(
-            &rt,
-            rt.alloc(),
-            SQUARED_GAP,
-            strip,
-            20,
-            80,
-            Refusal::WrongStrip,
-        )?;
-        refused(
-            &rt,
-            rt.alloc(),
-            SQUARED_GAP,
-            strip,
-            0,
-            0,
-            Refusal::WrongStrip,
-        )?;
-        refused(&rt, rt.alloc(), nothing, strip, 20, 80, Refusal::WrongStrip)?;
+        for (shape, answers, work) in lists {
+            let case = Case {
+                shape,
+                strip: strip_of(sides),
+                answers,
+                work,
+            };
+            case.refused(&rt, rt.alloc(), Refusal::WrongStrip)?;
+        }
     }
-    refused(
-        &rt,
-        rt.alloc(),
-        nothing,
-        strip_of([0, 1, 0, 1]),
-        1,
-        4,
-        Refusal::WrongStrip,
-    )
+    Case::with_spare(NOTHING, [0, 1, 0, 1], 0).refused(&rt, rt.alloc(), Refusal::WrongStrip)
 }
 
 #[test]
@@ -292,16 +277,13 @@ fn short_lists_are_refused(rt: HostRuntime) -> Result<(), Fail> {
         let rows = strip.rows;
         assert!(rt; 0 < rows && rows <= 512);
         for (answers, work) in [(rows - 1, 4 * rows), (rows, 4 * rows - 1), (0, 0)] {
-            let heap = rt.alloc();
-            refused(
-                &rt,
-                heap,
+            let case = Case {
                 shape,
                 strip,
                 answers,
                 work,
-                Refusal::ListTooShort,
-            )?;
+            };
+            case.refused(&rt, rt.alloc(), Refusal::ListTooShort)?;
         }
     }
     Ok(())
@@ -311,10 +293,10 @@ fn short_lists_are_refused(rt: HostRuntime) -> Result<(), Fail> {
 fn a_full_ledger_rises_no_further(rt: HostRuntime) -> Result<(), Fail> {
     let most = (1u64 << 63) - 1;
     for left in [0u64, 4] {
-        let mut sheet = Blocks::new(SQUARED_GAP, most.saturating_sub(left));
-        let done = tried(rt.alloc(), &mut sheet, strip_of([0, 9, 0, 7]), 9, 36)?;
+        let case = Case::with_spare(SQUARED_GAP, [0, 9, 0, 7], 0);
+        let done = case.tried(rt.alloc(), most.saturating_sub(left))?;
         assert_eq!(rt; done.answer, Ok(left));
-        assert_eq!(rt; sheet.ledger(), most);
+        assert_eq!(rt; done.sheet.ledger(), most);
         assert!(rt; done.answers.as_slice() == [0, 1, 2, 3, 4, 5, 6, 6, 6].as_slice());
     }
     Ok(())

@@ -1,7 +1,9 @@
 use Rattle.std.proofs.Common.{◌≡◌, ℕ, ◌-◌, ◌*◌, ◌^◌, ◌≤◌, length, refl, arith, pow_pos}
 use Rattle.search.specs.Search.{Fits}
-use Rattle.search.proofs.Standing.{fits_there}
-use Rattle.search.proofs.Depths.{stands_at, kept_there, searched}
+use Rattle.search.proofs.Standing.{fits_there, level_agrees}
+use Rattle.search.specs.Levels.{every}
+use Rattle.search.proofs.Grid.{keeps_same}
+use Rattle.search.proofs.Depths.{searched}
 use Rattle.search.proofs.search.Given as given
 use Rattle.search.proofs.search.Goals as goal
 use Rattle.search.proofs.search.Goals.{After-start}
@@ -19,31 +21,25 @@ fits g c =
 pub lower-last-requires : goal.lower-last-requires
 lower-last-requires g c =
     let m = g.S.Sheet in
-    let met = g.met.S.Sheet in
-    let s = c.args.sheet.now in
     let room : 4 * c.args.strip.rows ≤ length c.args.work.now = omega arith in
     let inside = fits g (goal.at.lower-last-requires g c).After-start in
     let a = c.start.ensures.after in
     record {
-      fits = fits_there m a.reads.2 inside;
-      room = omega arith;
-      kept = kept_there m (stands_at m c.args.work.now 1 inside (met.low s) (met.narrow s) room (omega arith)) a.reads.2 a.kept;
+      ready = record { fits = fits_there m a.reads.2 inside; room = omega arith };
+      kept = keeps_same (every m c.args.sheet.now c.args.strip 1) (level_agrees m (omega arith) inside a.reads.2) a.kept;
     }
 
 pub raise-requires : goal.raise-requires
 raise-requires g c =
     let m = g.S.Sheet in
-    let met = g.met.S.Sheet in
-    let t = c.start.new.sheet in
     let room : 4 * c.args.strip.rows ≤ length c.lower-last.new.work = omega arith in
     let long : c.args.strip.rows ≤ length c.args.answers.now = omega arith in
     let started = fits_there m c.start.ensures.after.reads.2 (fits g (goal.at.raise-requires g c).After-start) in
     let l = c.lower-last.ensures.after in
     record {
-      fits = fits_there m l.reads.2 started;
-      room = room;
+      ready = record { fits = fits_there m l.reads.2 started; room = room };
       long = long;
-      levels = (l.levels.0, l.levels.1, λ d h. kept_there m (stands_at m c.lower-last.new.work (2 ^ d) started (met.low t) (met.narrow t) room (pow_pos d)) l.reads.2 (l.levels.2 d h));
+      levels = (l.levels.0, l.levels.1, λ d h. keeps_same (every m c.start.new.sheet c.args.strip (2 ^ d)) (level_agrees m (pow_pos d) started l.reads.2) (l.levels.2 d h));
       end = l.last;
     }
 

@@ -1,6 +1,6 @@
-use Rattle.std.proofs.Common.{◌≡◌, ℕ, ◌+◌, ◌*◌, ◌<◌, ◌≤◌, get_or}
-use Rattle.search.specs.Levels.{grid_of, from}
-use Rattle.search.specs.Steps.{Read}
+use Rattle.std.proofs.Common.{ℕ, ◌+◌, ◌*◌, ◌/◌, ◌<◌, ◌≤◌, length}
+use Rattle.search.specs.Levels.{nth}
+use Rattle.search.specs.Steps.{Read, KeptFrom, grid_of}
 use Rattle.search.proofs.Scans.{OddRows, EvenRows, Starts}
 use Rattle.search.proofs.scan.fill.Given as goal
 
@@ -8,9 +8,9 @@ abbrev pub invariant-loop-p : goal.invariant-loop-p
 invariant-loop-p g l =
     let m = g.S.Sheet in
     let G = grid_of m l.initial.sheet l.level in
-    (l.place < l.len)
+    (l.place < length l.kept)
     × EvenRows G l.level.stride l.answers l.p
     × OddRows G l.level.stride l.answers
-    × Starts G (from l.work l.level.base) l.p l.place
-    × ((j : ℕ) → l.level.rows * l.level.stride ≤ j → get_or l.answers j 0 ≡ get_or l.initial.answers j 0)
+    × Starts G (nth l.kept) l.p l.place
+    × KeptFrom l.initial.answers l.answers (l.level.strip.rows / l.level.stride * l.level.stride)
     × ((n : ℕ) × (n ≤ l.place + l.p) × Read m n l.initial.sheet l.sheet)
