@@ -1,6 +1,7 @@
 pub mod Sums
 pub mod Rows
 pub mod Held
+pub mod RowMeaning
 pub mod Ceilings
 pub mod Middles
 pub mod HeldLemmas
