@@ -1,5 +1,6 @@
 pub mod Sums
 pub mod Rows
+pub mod Entries
 pub mod Held
 pub mod RowMeaning
 pub mod Ceilings
