@@ -3,7 +3,7 @@ use Rattle.std.specs.Prelude.{ℕ, ◌-◌, List, slice_index}
 use Rattle.weighing.specs.declared.weighing.Weighing.{Ghosts}
 use Rattle.rising.specs.declared.ceiling.AtLast.{AtLast}
 use Rattle.rising.specs.declared.row.Row.{Row}
-use Rattle.rising.specs.RowMeaning.{row_readings, row_count}
+use Rattle.rising.specs.Held.{row_readings, row_count}
 use Rattle.rising.specs.Sums.{over_span}
 use Rattle.rising.specs.Rows.{rising_meaning}
 

@@ -1,6 +1,6 @@
 -- The list of readings held, as the entries have it.
-use Rattle.std.specs.Prelude.{◌≡◌, ℕ, ◌+◌, ◌-◌, ◌*◌, ◌<◌, ◌≤◌, List, [], ◌∷◌, ◌++◌, length, take, slice_index}
-use Rattle.std.proofs.Common.{sym, mul-le-mul, arith}
+use Rattle.std.specs.Prelude.{◌≡◌, ℕ, ◌+◌, ◌*◌, ◌≤◌, List, [], ◌∷◌, ◌++◌, length, take, slice_index}
+use Rattle.std.proofs.Common.{sym, arith}
 use Rattle.std.proofs.lemmas.List.{length-map, map-append, take-map}
 use Rattle.rising.specs.declared.readings.Entry.{Entry}
 use Rattle.rising.specs.declared.readings.Readings.{Readings}
@@ -23,9 +23,6 @@ held_rising r = r.rising
 -- so few small readings have a small sum
 pub sums_small : (r : Readings) (k : ℕ) → k ≤ length (readings r) → sum_first (readings r) k ≤ k * 65535
 sums_small r k h = total_bounded (λ i. slice_index (readings r) i) 65535 0 k (λ i l m. held_small r i (omega arith))
-
-pub times_reading : (r : Readings) (k i v : ℕ) → v ≡ slice_index (readings r) i → k ≤ 512 → i < length (readings r) → k * v ≤ 33553920
-times_reading r k i v is h l = let small : v ≤ 65535 = omega (arith, held_small r i l) in mul-le-mul h small
 
 abbrev Kept : List Entry → Type 0
 Kept entries = Small (taken entries) × Rising (taken entries) × Summed (taken entries) (0 ∷ sums entries)

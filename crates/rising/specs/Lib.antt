@@ -2,7 +2,6 @@ pub mod Sums
 pub mod Rows
 pub mod Entries
 pub mod Held
-pub mod RowMeaning
 pub mod Ceilings
 pub mod Middles
 pub mod HeldLemmas

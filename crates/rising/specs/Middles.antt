@@ -4,7 +4,7 @@ use Rattle.weighing.specs.declared.weighing.Weighing.{Ghosts}
 use Rattle.weighing.specs.Distance.{apart}
 use Rattle.rising.specs.declared.middle.AtMiddle.{AtMiddle}
 use Rattle.rising.specs.declared.row.Row.{Row}
-use Rattle.rising.specs.RowMeaning.{row_readings, row_count}
+use Rattle.rising.specs.Held.{row_readings, row_count}
 use Rattle.rising.specs.Sums.{over_span}
 use Rattle.rising.specs.Rows.{rising_meaning}
 

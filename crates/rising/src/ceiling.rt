@@ -31,8 +31,7 @@ impl Hold for AtLast {
     }
 
     fn weight(row: &Readings, a: usize, b: usize) -> u64 {
-        let level = row.at(b - 1) as usize;
-        let weight = (b - a) * level + row.sum_first(a) as usize - row.sum_first(b) as usize;
-        weight as u64
+        let level = row.at(Self::place(a, b)) as u64;
+        (b - a) as u64 * level + row.sum_first(a) as u64 - row.sum_first(b) as u64
     }
 }

@@ -2,10 +2,10 @@
 ghost use Rattle.std.specs.Prelude.{◌≡◌, ℕ, ◌+◌, ◌<◌, ◌≤◌, List, [], length, slice_index};
 ghost use Rattle.weighing.specs.Calls.{Span};
 ghost use Rattle.rising.specs.Held;
+ghost use Rattle.rising.specs.Held.{row_readings, row_count};
 ghost use Rattle.rising.specs.Rows.{rising_verdict, Small, Rising, Pushes, Pops, Empties, WeighsBy};
 ghost use Rattle.rising.specs.Spans.{Local};
 ghost use Rattle.rising.specs.HeldLemmas.{held_few, held_small, held_rising};
-ghost use Rattle.rising.specs.RowMeaning.{row_readings, row_count};
 ghost use Rattle.std.proofs.Common.{arith, rules};
 
 use crate::readings::{RISING_TOP, Readings};
