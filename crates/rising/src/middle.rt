@@ -30,6 +30,7 @@ impl Hold for AtMiddle {
         (a + b) / 2
     }
 
+    #[tactic(auto, using(crate::specs::HeldLemmas::held_few, crate::specs::HeldLemmas::held_rising, crate::specs::MiddlesLemmas::middle_by_sums))]
     fn weight(row: &Readings, a: usize, b: usize) -> u64 {
         // the readings after the middle less those before it
         let twice = a + b;
