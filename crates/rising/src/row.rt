@@ -2,7 +2,7 @@
 ghost use Rattle.std.specs.Prelude.{◌≡◌, ℕ, ◌+◌, ◌<◌, ◌≤◌, List, [], length, slice_index};
 ghost use Rattle.weighing.specs.Calls.{Span};
 ghost use Rattle.rising.specs.Held;
-ghost use Rattle.rising.specs.Held.{row_readings, row_count};
+ghost use Rattle.rising.specs.Held.{row_readings, row_count, row_meaning};
 ghost use Rattle.rising.specs.Rows.{rising_verdict, Small, Rising, Pushes, Pops, Empties, WeighsBy};
 ghost use Rattle.rising.specs.Spans.{Local};
 ghost use Rattle.rising.specs.HeldLemmas.{held_few, held_small, held_rising};
@@ -64,17 +64,17 @@ impl<H: Hold> Row<H> {
 }
 
 impl<H: Hold> Weighing for Row<H> {
-    ghost held = { λ s. length (row_readings s) };
+    ghost held = { (row_meaning H.place H.weight).held };
 
-    ghost weight = { λ s. H.weight (row_readings s) };
+    ghost weight = { (row_meaning H.place H.weight).weight };
 
-    ghost level = { λ s a b. slice_index (row_readings s) (H.place a b) };
+    ghost level = { (row_meaning H.place H.weight).level };
 
-    ghost verdict = { λ s. rising_verdict (row_readings s) };
+    ghost verdict = { (row_meaning H.place H.weight).verdict };
 
-    ghost top = { λ s. 33553920 };
+    ghost top = { (row_meaning H.place H.weight).top };
 
-    ghost count = { row_count };
+    ghost count = { (row_meaning H.place H.weight).count };
 
     ghost few = { λ w. held_few w.readings };
 
