@@ -1,7 +1,7 @@
 //! The charge: a weighing whose every span costs a fixed sum more than in the weighing below.
 #![tactic(auto)]
 
-ghost use Rattle.std.specs.Prelude.{◌≡◌};
+ghost use Rattle.std.specs.Prelude.{◌≡◌, true, false, Ok, Err};
 ghost use Rattle.charge.specs.Charges.{charge_fits, charged, StillCharged};
 ghost use Rattle.weighing.specs.Did.{TakeDid, DropDid, WipeDid, WeighDid, LevelsKept};
 ghost use Rattle.std.proofs.Common.{arith, rules};
@@ -34,6 +34,15 @@ impl<W: Weighing> Charge<W> {
         ensures value { result ≡ charge_fits W.Weighing self.now }
     {
         self.charge <= GREATEST_CHARGE && self.inner.top() + self.charge <= GREATEST_TOP
+    }
+
+    fn fitting_or(&self, why: Refusal) -> Result<(), Refusal>
+        ensures value { elim result [
+          | Ok _ ↦ charge_fits W.Weighing self.now ≡ true
+          | Err other ↦ (charge_fits W.Weighing self.now ≡ false) × (other ≡ why)
+        ] }
+    {
+        self.fits().then_some(()).ok_or(why)
     }
 }
 
@@ -81,11 +90,8 @@ impl<W: Weighing> Weighing for Charge<W> {
         ensures levels { LevelsKept (charged W.Weighing) self.old self.new }
         ensures same { StillCharged W.Weighing self.old self.new }
     {
-        if self.fits() {
-            self.inner.take(reading)
-        } else {
-            Err(Refusal::Misfit)
-        }
+        self.fitting_or(Refusal::Misfit)?;
+        self.inner.take(reading)
     }
 
     fn drop_last(&mut self) -> Result<usize, Refusal>
@@ -93,11 +99,8 @@ impl<W: Weighing> Weighing for Charge<W> {
         ensures levels { LevelsKept (charged W.Weighing) self.old self.new }
         ensures same { StillCharged W.Weighing self.old self.new }
     {
-        if self.fits() {
-            self.inner.drop_last()
-        } else {
-            Err(Refusal::NothingHeld)
-        }
+        self.fitting_or(Refusal::NothingHeld)?;
+        self.inner.drop_last()
     }
 
     fn wipe(&mut self) -> usize
@@ -113,19 +116,14 @@ impl<W: Weighing> Weighing for Charge<W> {
         ensures levels { LevelsKept (charged W.Weighing) self.old self.new }
         ensures same { StillCharged W.Weighing self.old self.new }
     {
-        if !self.fits() {
-            return Err(Refusal::NoSuchPlace);
-        }
+        self.fitting_or(Refusal::NoSuchPlace)?;
         let weight = self.inner.weigh(a, b)?;
         Ok(weight + self.charge)
     }
 
     fn level(&self, a: usize, b: usize) -> Result<u32, Refusal> {
-        if self.fits() {
-            self.inner.level(a, b)
-        } else {
-            Err(Refusal::NoSuchPlace)
-        }
+        self.fitting_or(Refusal::NoSuchPlace)?;
+        self.inner.level(a, b)
     }
 
     fn count(&self) -> u64 {

@@ -1,13 +1,14 @@
 //! The pair: two weighings of the same readings as one, in which the first counts before the second.
 #![tactic(auto)]
 
-ghost use Rattle.std.specs.Prelude.{◌≡◌};
+ghost use Rattle.std.specs.Prelude.{◌≡◌, true, false, Ok, Err};
 ghost use Rattle.weighing.specs.Did.{TakeDid, DropDid, WipeDid, WeighDid, LevelsKept};
 ghost use Rattle.pair.specs.Pairs.{pair_fits, paired, StillPaired, BothTake, BothDrop, BothWipe, BothWeigh};
 ghost use Rattle.pair.specs.PairsLemmas.{held_on_both};
 ghost use Rattle.std.proofs.Common.{arith, rules};
 
 use refusal::Refusal;
+use weighing::verdict::heed;
 use weighing::weighing::Weighing;
 
 const FIRST_TOP: u64 = 0x1fff_ffff;
@@ -40,6 +41,15 @@ impl<F: Weighing, S: Weighing> Pair<F, S> {
         self.first.top() <= FIRST_TOP
             && self.second.top() <= SECOND_TOP
             && self.first.held() == self.second.held()
+    }
+
+    fn fitting_or(&self, why: Refusal) -> Result<(), Refusal>
+        ensures value { elim result [
+          | Ok _ ↦ pair_fits F.Weighing S.Weighing self.now ≡ true
+          | Err other ↦ (pair_fits F.Weighing S.Weighing self.now ≡ false) × (other ≡ why)
+        ] }
+    {
+        self.fits().then_some(()).ok_or(why)
     }
 }
 
@@ -76,12 +86,11 @@ impl<F: Weighing, S: Weighing> Weighing for Pair<F, S> {
         omega (arith, F.Weighing.quadrangle w.first a b c d h1 h2 h3 inside.0, S.Weighing.quadrangle w.second a b c d h1 h2 h3 inside.1) };
 
     fn verdict(&self, reading: u32) -> Option<Refusal> {
-        if !self.fits() {
-            return Some(Refusal::Misfit);
-        }
-        match self.first.verdict(reading) {
-            Some(why) => Some(why),
-            None => self.second.verdict(reading),
+        if self.fits() {
+            let first = self.first.verdict(reading);
+            first.or_else(|| self.second.verdict(reading))
+        } else {
+            Some(Refusal::Misfit)
         }
     }
 
@@ -92,9 +101,7 @@ impl<F: Weighing, S: Weighing> Weighing for Pair<F, S> {
         ensures both { BothTake F.Weighing S.Weighing self.old self.new reading result }
     {
         // both or neither: once no verdict speaks against it, neither refuses
-        if let Some(why) = self.verdict(reading) {
-            return Err(why);
-        }
+        heed(self.verdict(reading))?;
         self.first.take(reading)?;
         self.second.take(reading)
     }
@@ -105,9 +112,7 @@ impl<F: Weighing, S: Weighing> Weighing for Pair<F, S> {
         ensures same { StillPaired F.Weighing S.Weighing self.old self.new }
         ensures both { BothDrop F.Weighing S.Weighing self.old self.new result }
     {
-        if !self.fits() {
-            return Err(Refusal::NothingHeld);
-        }
+        self.fitting_or(Refusal::NothingHeld)?;
         self.first.drop_last()?;
         self.second.drop_last()
     }
@@ -118,11 +123,12 @@ impl<F: Weighing, S: Weighing> Weighing for Pair<F, S> {
         ensures same { StillPaired F.Weighing S.Weighing self.old self.new }
         ensures both { BothWipe F.Weighing S.Weighing self.old self.new }
     {
-        if !self.fits() {
-            return 0;
+        if self.fits() {
+            self.first.wipe();
+            self.second.wipe()
+        } else {
+            0
         }
-        self.first.wipe();
-        self.second.wipe()
     }
 
     fn weigh(&mut self, a: usize, b: usize) -> Result<u64, Refusal>
@@ -131,20 +137,15 @@ impl<F: Weighing, S: Weighing> Weighing for Pair<F, S> {
         ensures same { StillPaired F.Weighing S.Weighing self.old self.new }
         ensures both { BothWeigh F.Weighing S.Weighing self.old self.new a b result }
     {
-        if !self.fits() {
-            return Err(Refusal::NoSuchPlace);
-        }
+        self.fitting_or(Refusal::NoSuchPlace)?;
         let first = self.first.weigh(a, b)?;
         let second = self.second.weigh(a, b)?;
         Ok(first * UNIT + second)
     }
 
     fn level(&self, a: usize, b: usize) -> Result<u32, Refusal> {
-        if self.fits() {
-            self.first.level(a, b)
-        } else {
-            Err(Refusal::NoSuchPlace)
-        }
+        self.fitting_or(Refusal::NoSuchPlace)?;
+        self.first.level(a, b)
     }
 
     fn count(&self) -> u64 {

@@ -13,7 +13,7 @@ ceiling_level_local x y a b h same = same (b - 1) (omega arith)
 
 pub ceiling_weight_local : Local ceiling_weight
 ceiling_weight_local x y a b h same =
-    let level = same (b - 1) (omega arith) in
+    let level = ceiling_level_local x y a b h same in
     total_agrees (λ i. slice_index y (b - 1) - slice_index y i) (λ i. slice_index x (b - 1) - slice_index x i) a (b - a) (λ i h l. let at = same i (omega arith) in cc)
 
 product_of_sums : (q e u f : ℕ) → (q + e) * u + q * (u + f) ≤ (q + e) * (u + f) + q * u

@@ -1,5 +1,6 @@
 pub mod Sums
 pub mod Rows
+pub mod Entries
 pub mod Held
 pub mod Ceilings
 pub mod Middles

@@ -25,7 +25,7 @@ middle_level_local x y a b h same = same ((a + b) / 2) (in_span a b h).1
 
 pub middle_weight_local : Local middle_weight
 middle_weight_local x y a b h same =
-    let level = same ((a + b) / 2) (in_span a b h).1 in
+    let level = middle_level_local x y a b h same in
     total_agrees (λ i. apart (slice_index y i) (middle_level y a b)) (λ i. apart (slice_index x i) (middle_level x a b)) a (b - a) (λ i l m. let at = same i (omega arith) in cc)
 
 module _ (x : List ℕ) (rising : Rising x) where

@@ -2,10 +2,8 @@
 use Rattle.std.specs.Prelude.{◌≡◌, ℕ, ◌<◌, List, [], length}
 use Rattle.refusal.specs.declared.Refusal.{Refusal}
 use Rattle.refusal.specs.Numbers.{number}
-use Rattle.rising.specs.declared.ceiling.Ceiling.{Ceiling}
-use Rattle.rising.specs.declared.middle.Middle.{Middle}
-use Rattle.rising.specs.Ceilings.{ceiling_readings, ceiling_count, ceiling_meaning}
-use Rattle.rising.specs.Middles.{middle_readings, middle_count, middle_meaning}
+use Rattle.rising.specs.Ceilings.{Ceiling, ceiling_readings, ceiling_count, ceiling_meaning}
+use Rattle.rising.specs.Middles.{Middle, middle_readings, middle_count, middle_meaning}
 use Rattle.even.specs.declared.Even.{Even}
 use Rattle.even.specs.Meaning.{even_meaning}
 use Rattle.console.specs.Numerals.{NumberOf}

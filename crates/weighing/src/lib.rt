@@ -1,6 +1,7 @@
-//! The interface of a weighing, what a span of readings costs by any measure that keeps it, and the verdict on a next
-//! reading that makers of weighings share.
+//! The interface of a weighing, what a span of readings costs by any measure that keeps it, and what makers of weighings
+//! share: the verdict on a next reading and the test of a span.
 #![tactic(auto)]
 
+pub mod span;
 pub mod verdict;
 pub mod weighing;

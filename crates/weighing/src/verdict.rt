@@ -1,5 +1,5 @@
 //! The verdict on a next reading.
-ghost use Rattle.std.specs.Prelude.{◌≡◌};
+ghost use Rattle.std.specs.Prelude.{◌≡◌, Some, None, Ok, Err};
 ghost use Rattle.weighing.specs.Calls.{told};
 ghost use Rattle.weighing.specs.Verdicts.{next_verdict};
 
@@ -8,7 +8,10 @@ use refusal::Refusal;
 /// How many readings a weighing holds at most.
 pub const MOST_READINGS: usize = 512;
 
-const TOO_GREAT: u32 = 65_536;
+/// No reading is greater.
+pub const GREATEST_READING: u32 = 65_535;
+
+const TOO_GREAT: u32 = GREATEST_READING + 1;
 
 /// Whether `reading` may follow `count` readings of which the last is `last`.
 pub fn verdict_on(count: usize, reading: u32, last: u32) -> Option<Refusal>
@@ -20,4 +23,11 @@ pub fn verdict_on(count: usize, reading: u32, last: u32) -> Option<Refusal>
         (_, next) if next < last => Some(Refusal::ReadingFalls),
         _ => None,
     }
+}
+
+/// A verdict as an answer that `?` passes on: refused with the verdict where there is one.
+pub fn heed(verdict: Option<Refusal>) -> Result<(), Refusal>
+    ensures value { elim result [ Ok _ ↦ verdict ≡ None | Err why ↦ verdict ≡ Some why ] }
+{
+    verdict.map_or(Ok(()), Err)
 }

@@ -8,6 +8,7 @@ use refusal::Refusal;
 /// A weighing holds n readings, at most 512. A span `a..b`, with a < b <= n, covers readings a to
 /// b - 1 and has a weight and a level. The verdict tells of a next reading whether it would be taken.
 /// What becomes of the verdict when readings come and go is the maker's to say.
+// The clauses list the members one by one, since the record of them, by which `Did` cites a call, is made from this trait.
 pub trait Weighing {
     // how many readings are held: n
     ghost held: { Self → ℕ };

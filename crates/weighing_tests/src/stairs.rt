@@ -3,33 +3,33 @@ ghost use Rattle.std.specs.Prelude.{◌≡◌, ◌-◌, ◌^◌, ◌≤◌, min}
 ghost use Rattle.weighing_tests.specs.Stairs.{stairs_weight, stairs_verdict};
 ghost use Rattle.std.proofs.Common.{rules};
 
+use counter::Counter;
 use refusal::Refusal;
+use weighing::span::check_span;
+use weighing::verdict::heed;
 use weighing::weighing::Weighing;
 
-const COSTS: [u64; 5] = [0, 0, 1, 4, 9];
-
-const GREATEST_COUNT: u64 = 0x7fff_ffff_ffff_ffff;
-
 const MOST_STEPS: usize = 4;
+
+const COSTS: [u64; MOST_STEPS + 1] = [0, 0, 1, 4, 9];
 
 /// Up to four readings of any size; a span costs what the table says of its length. Its count may
 /// begin anywhere.
 #[derive(Drop)]
 pub struct Stairs {
     n: usize,
-    weighs: u64,
+    weighs: Counter,
     ghost few: { n ≤ 4 },
-    ghost capped: { weighs ≤ 2 ^ 63 - 1 },
 }
 
 impl Stairs {
     /// No readings yet, and so many weighs counted, up to 2^63 - 1.
     pub fn new(weighs: u64) -> Stairs
-        ensures value { (result.n ≡ 0) × (result.weighs ≡ min weighs (2 ^ 63 - 1)) }
+        ensures value { (result.n ≡ 0) × (result.weighs.told ≡ min weighs (2 ^ 63 - 1)) }
     {
         Stairs {
             n: 0,
-            weighs: weighs.min(GREATEST_COUNT),
+            weighs: Counter::from_told(weighs),
         }
     }
 }
@@ -45,7 +45,7 @@ impl Weighing for Stairs {
 
     ghost top = { λ s. 9 };
 
-    ghost count = { λ s. s.weighs };
+    ghost count = { λ s. s.weighs.told };
 
     ghost few = { Prim.search rules };
 
@@ -64,26 +64,17 @@ impl Weighing for Stairs {
     ghost quadrangle = { Prim.search rules };
 
     fn verdict(&self, reading: u32) -> Option<Refusal> {
-        if self.n < MOST_STEPS {
-            None
-        } else {
-            Some(Refusal::Full)
-        }
+        (self.n == MOST_STEPS).then_some(Refusal::Full)
     }
 
     fn take(&mut self, reading: u32) -> Result<usize, Refusal> {
-        if self.n >= MOST_STEPS {
-            return Err(Refusal::Full);
-        }
+        heed(self.verdict(reading))?;
         self.n += 1;
         Ok(self.n)
     }
 
     fn drop_last(&mut self) -> Result<usize, Refusal> {
-        if self.n == 0 {
-            return Err(Refusal::NothingHeld);
-        }
-        self.n -= 1;
+        self.n = self.n.checked_sub(1).ok_or(Refusal::NothingHeld)?;
         Ok(self.n)
     }
 
@@ -93,25 +84,18 @@ impl Weighing for Stairs {
     }
 
     fn weigh(&mut self, a: usize, b: usize) -> Result<u64, Refusal> {
-        if a >= b || b > self.n {
-            return Err(Refusal::NoSuchPlace);
-        }
-        if self.weighs < GREATEST_COUNT {
-            self.weighs += 1;
-        }
+        check_span(a, b, self.n)?;
+        self.weighs.raise();
         Ok(COSTS[b - a])
     }
 
     fn level(&self, a: usize, b: usize) -> Result<u32, Refusal> {
-        if a >= b || b > self.n {
-            Err(Refusal::NoSuchPlace)
-        } else {
-            Ok(0)
-        }
+        check_span(a, b, self.n)?;
+        Ok(0)
     }
 
     fn count(&self) -> u64 {
-        self.weighs
+        self.weighs.told()
     }
 
     fn held(&self) -> usize {
@@ -119,6 +103,6 @@ impl Weighing for Stairs {
     }
 
     fn top(&self) -> u64 {
-        9
+        COSTS[MOST_STEPS]
     }
 }

@@ -5,18 +5,17 @@ ghost use Rattle.rising.specs.Held.{readings};
 ghost use Rattle.rising.specs.Rows.{rising_verdict, last, Pushes, Pops};
 ghost use Rattle.rising.specs.Sums.{sum_first};
 
-use crate::readings::Readings;
+use crate::readings::{Entry, Readings};
+use arrayvec::ArrayVec;
 use refusal::Refusal;
-use weighing::verdict::verdict_on;
+use weighing::verdict::{heed, verdict_on};
 
 impl Readings {
     pub(crate) fn new() -> Readings
         ensures value { readings result ≡ [] }
     {
         Readings {
-            places: [0; 512],
-            sums: [0; 513],
-            n: 0,
+            entries: ArrayVec::new(),
         }
     }
 
@@ -24,59 +23,48 @@ impl Readings {
         ensures value { result ≡ length (readings self.now) }
         ensures few { result ≤ 512 }
     {
-        self.n
+        self.entries.len()
     }
 
     fn last(&self) -> u32
         ensures value { result ≡ last (readings self.now) }
     {
-        if self.n == 0 {
-            0
-        } else {
-            self.places[self.n - 1]
-        }
+        self.entries.last().map_or(0, |entry| entry.reading)
     }
 
     pub(crate) fn verdict(&self, reading: u32) -> Option<Refusal>
         ensures value { told result ≡ rising_verdict (readings self.now) reading }
     {
-        verdict_on(self.n, reading, self.last())
+        verdict_on(self.held(), reading, self.last())
     }
 
     pub(crate) fn take(&mut self, reading: u32) -> Result<usize, Refusal>
         ensures answer { Pushes readings self.old self.new reading result }
     {
-        if let Some(why) = self.verdict(reading) {
-            return Err(why);
-        }
-        let n = self.n;
-        self.places[n] = reading;
-        self.sums[n + 1] = self.sums[n] + reading;
-        self.n = n + 1;
-        Ok(n + 1)
+        heed(self.verdict(reading))?;
+        let sum = self.sum_first(self.held()) + reading;
+        self.entries.push(Entry { reading, sum });
+        Ok(self.held())
     }
 
     pub(crate) fn drop_last(&mut self) -> Result<usize, Refusal>
         ensures answer { Pops readings self.old self.new result }
     {
-        if self.n == 0 {
-            return Err(Refusal::NothingHeld);
-        }
-        self.n -= 1;
-        Ok(self.n)
+        self.entries.pop().ok_or(Refusal::NothingHeld)?;
+        Ok(self.held())
     }
 
     pub(crate) fn wipe(&mut self)
         ensures after { readings self.new ≡ [] }
     {
-        self.n = 0;
+        self.entries.clear();
     }
 
     pub(crate) fn at(&self, i: usize) -> u32
         requires { i < length (readings self.now) }
         ensures value { result ≡ slice_index (readings self.now) i }
     {
-        self.places[i]
+        self.entries[i].reading
     }
 
     /// The sum of the first `k` readings.
@@ -84,6 +72,6 @@ impl Readings {
         requires { k ≤ length (readings self.now) }
         ensures value { result ≡ sum_first (readings self.now) k }
     {
-        self.sums[k]
+        self.entries[..k].last().map_or(0, |entry| entry.sum)
     }
 }

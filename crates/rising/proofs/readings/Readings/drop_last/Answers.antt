@@ -1,21 +1,13 @@
--- Without the last reading, the rest stand as they stood.
-use Rattle.std.proofs.Common.{◌-◌, take, sym, refl, ap, ◌∙◌, inl, arith}
-use Rattle.rising.specs.Held.{readings}
-use Rattle.rising.specs.HeldLemmas.{held_length, front_kept, front_is}
+-- Without the last entry, the rest stand as they stood.
+use Rattle.std.proofs.Common.{◌-◌, length, ap, arith}
+use Rattle.std.proofs.lemmas.List.{length-map, length-take-le}
+use Rattle.rising.specs.HeldLemmas.{front_kept}
 use Rattle.rising.proofs.readings.Readings.drop_last.Goals as goal
-
-pub returns-then-self-eq0 : goal.returns-then-self-eq0
-returns-then-self-eq0 c = let long = held_length c.args.self.now in record { answer = (inl (λ h. omega arith, refl), refl) }
 
 pub invariant_of-self : goal.invariant_of-self
 invariant_of-self c =
     let r = c.args.self.now in
-    let kept = front_kept r (r.n - 1) (omega arith) in
-    record { room = r.room; rooms = r.rooms; few = omega (arith, r.few); small = kept.0; rising = kept.1; summed = kept.2 }
-
-pub returns : goal.returns
-unfolding readings
-returns c =
-    let r = c.args.self.now in
-    let long = held_length r in
-    record { answer = (omega arith, omega arith, front_is r (r.n - 1) (omega arith) ∙ ap (λ k. take (k - 1) (readings r)) (sym long)) }
+    let long = length-map r.entries.items (λ e. e.reading) in
+    let kept = front_kept r (length r.entries.items - 1) _ c.pop.ensures.rest (omega arith) in
+    let fewer = length-take-le (length r.entries.items - 1) r.entries.items (omega arith) in
+    record { few = omega (arith, ap length c.pop.ensures.rest); small = kept.0; rising = kept.1; summed = kept.2 }

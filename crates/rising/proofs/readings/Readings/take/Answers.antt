@@ -1,29 +1,28 @@
--- A reading that the verdict allows finds room, and what held of the readings holds with it.
-use Rattle.std.proofs.Common.{◌≡◌, ◌+◌, sym, ap, ◌∙◌, arith, length-set}
+-- A reading that the verdict allows finds room, and what held of the entries holds with it.
+use Rattle.std.proofs.Common.{◌≡◌, ◌+◌, length, arith, rules}
+use Rattle.std.proofs.lemmas.List.{length-map}
 use Rattle.rising.specs.Held.{readings}
 use Rattle.rising.specs.Rows.{rising_verdict}
-use Rattle.rising.specs.HeldLemmas.{held_length, room_left, push_is, push_kept, sum_fits}
+use Rattle.rising.specs.Sums.{sum_first}
+use Rattle.rising.specs.HeldLemmas.{held_few, sums_small, push_kept}
+use Rattle.rising.specs.RowsLemmas.{allowed}
 use Rattle.rising.proofs.readings.Readings.take.Goals as goal
 
-pub bounds-self-n : goal.bounds-self-n
-bounds-self-n c = let room = room_left c.args.self.now c.args.reading (sym c.in_default.ensures.value) in omega arith
-
-pub overflow_add-self : goal.overflow_add-self
-overflow_add-self c = let fits = sum_fits c.args.self.now c.args.reading (sym c.in_default.ensures.value) in omega arith
-
-pub bounds-self-n-3 : goal.bounds-self-n-3
-bounds-self-n-3 c = let room = room_left c.args.self.now c.args.reading (sym c.in_default.ensures.value) in omega arith
+pub overflow_add-sum : goal.overflow_add-sum
+overflow_add-sum c =
+    let r = c.args.self.now in
+    let told : rising_verdict (readings r) c.args.reading ≡ 0 = search rules in
+    let ok = allowed (readings r) c.args.reading (held_few r) told in
+    let total : c.sum_first.result ≡ sum_first (readings r) (length (readings r)) = cc in
+    let small = sums_small r (length (readings r)) (omega arith) in
+    omega arith
 
 pub invariant_of-self : goal.invariant_of-self
 invariant_of-self c =
     let r = c.args.self.now in
-    let told : rising_verdict (readings r) c.args.reading ≡ 0 = sym c.in_default.ensures.value in
-    let kept = push_kept r c.args.reading told in
-    record { room = length-set r.places _ _ ∙ r.room; rooms = length-set r.sums _ _ ∙ r.rooms; few = omega (arith, room_left r c.args.reading told); small = kept.0; rising = kept.1; summed = kept.2 }
-
-pub returns : goal.returns
-unfolding readings
-returns c =
-    let r = c.args.self.now in
-    let told : rising_verdict (readings r) c.args.reading ≡ 0 = sym c.in_default.ensures.value in
-    record { answer = (told, ap (λ k. k + 1) (sym (held_length r)), push_is r c.args.reading told) }
+    let told : rising_verdict (readings r) c.args.reading ≡ 0 = search rules in
+    let ok = allowed (readings r) c.args.reading (held_few r) told in
+    let total : c.sum_first.result ≡ sum_first (readings r) (length (readings r)) = cc in
+    let kept = push_kept r c.args.reading (c.sum_first.result + c.args.reading) _ c.push.ensures.items told (omega arith) in
+    let long = length-map r.entries.items (λ e. e.reading) in
+    record { few = omega arith; small = kept.0; rising = kept.1; summed = kept.2 }
