@@ -45,9 +45,7 @@ impl Hull {
             return Err(Refusal::NotConvex);
         }
         let mut table = [ORIGIN; MOST_CORNERS];
-        for i in 0..n {
-            table[i] = corners[i];
-        }
+        table[..n].copy_from_slice(corners);
         *self = Hull { table, len: n };
         Ok(n)
     }

@@ -15,8 +15,8 @@ fn bring_round(columns: &mut [usize], n: usize)
     ensures brought { (k : ℕ) → k < n → slice_index columns.new k ≡ slice_index columns.old k % n }
     ensures kept { (k : ℕ) → n ≤ k → slice_index columns.new k ≡ slice_index columns.old k }
 {
-    for i in 0..n {
-        columns[i] %= n;
+    for column in &mut columns[..n] {
+        *column %= n;
     }
 }
 

@@ -18,12 +18,7 @@ pub(crate) fn all_near(corners: &[Corner]) -> bool
     ensures near { result ≡ true → AllNear corners.now }
     ensures only { AllNear corners.now → result ≡ true }
 {
-    for i in 0..corners.len() {
-        if !corners[i].is_near() {
-            return false;
-        }
-    }
-    true
+    corners.iter().all(|corner| corner.is_near())
 }
 
 /// Whether every three corners with rising numbers turn left. Three tests at each corner decide it:
