@@ -9,13 +9,12 @@ use refusal::Refusal;
 use search::search;
 use search::strip::Strip;
 
-/// Makes of each of the first n columns the corner that it stands for.
-fn bring_round(columns: &mut [usize], n: usize)
-    requires { (0 < n) × (n ≤ length columns.old) }
-    ensures brought { (k : ℕ) → k < n → slice_index columns.new k ≡ slice_index columns.old k % n }
-    ensures kept { (k : ℕ) → n ≤ k → slice_index columns.new k ≡ slice_index columns.old k }
+/// Makes of each column the corner that it stands for, where there is one column for each corner.
+fn bring_round(columns: &mut [usize])
+    ensures brought { (k : ℕ) → k < length columns.old → slice_index columns.new k ≡ slice_index columns.old k % length columns.old }
 {
-    for column in &mut columns[..n] {
+    let n = columns.len();
+    for column in columns.iter_mut() {
         *column %= n;
     }
 }
@@ -38,7 +37,7 @@ impl Swings {
             columns: 2 * n - 1,
         };
         let told = search(self, whole, answers, work)?;
-        bring_round(answers, n);
+        bring_round(&mut answers[..n]);
         Ok(told)
     }
 }
