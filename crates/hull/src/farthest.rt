@@ -25,7 +25,7 @@ impl Swings {
     pub fn farthest(&mut self, answers: &mut [usize], work: &mut [usize]) -> Result<u64, Refusal>
         ensures answer { FarthestDid (corners_of self.old.hull) answers.old answers.new work.old work.new result }
         ensures after { elim result [
-          | Ok told ↦ (self.new.hull ≡ self.old.hull) × (self.new.ledger ≡ self.old.ledger + told)
+          | Ok told ↦ (self.new.hull ≡ self.old.hull) × (self.new.ledger.told ≡ self.old.ledger.told + told)
           | Err why ↦ self.new ≡ self.old
         ] }
     {

@@ -9,30 +9,15 @@ ghost use Rattle.std.proofs.Common.{rules};
 use crate::corner::distance;
 use crate::reach::Reach;
 use crate::table::Hull;
+use counter::Counter;
 use refusal::Refusal;
 use search::sheet::Sheet;
-
-/// Where the ledger stays.
-const LEDGER_FULL: u64 = 9_223_372_036_854_775_807;
 
 /// A hull's sheet: the hull, and the ledger of how many entries were read.
 #[derive(Clone, Copy)]
 pub struct Swings {
     pub(crate) hull: Hull,
-    pub(crate) ledger: u64,
-    ghost capped: { ledger < 2 ^ 63 },
-}
-
-/// One more, up to 2^63 - 1.
-fn raised(ledger: u64) -> u64
-    requires { ledger < 2 ^ 63 }
-    ensures value { result ≡ min (ledger + 1) (2 ^ 63 - 1) }
-{
-    if ledger < LEDGER_FULL {
-        ledger + 1
-    } else {
-        ledger
-    }
+    pub(crate) ledger: Counter,
 }
 
 /// Row i, column j of the sheet of a hull.
@@ -53,12 +38,12 @@ fn reach(hull: &Hull, i: usize, j: usize) -> i64
 impl Swings {
     /// The sheet of a hull, no entry of it read yet.
     pub fn over(hull: &Hull) -> Swings
-        ensures value { (result.hull ≡ hull.now) × (result.ledger ≡ 0) }
+        ensures value { (result.hull ≡ hull.now) × (result.ledger.told ≡ 0) }
         ensures within { ReachesWithin (corners_of hull.now) }
     {
         Swings {
             hull: *hull,
-            ledger: 0,
+            ledger: Counter::new(),
         }
     }
 }
@@ -74,7 +59,7 @@ impl Sheet for Swings {
 
     ghost at = { λ s i j. record { value = reach (corners_of s.hull) i j } };
 
-    ghost ledger = { λ s. s.ledger };
+    ghost ledger = { λ s. s.ledger.told };
 
     ghost passes = { λ s t. t.hull ≡ s.hull };
 
@@ -100,7 +85,7 @@ impl Sheet for Swings {
         (reach_monotone cs s.hull.enough s.hull.left i j a b ij jn ab (true_below (reach cs i a) (reach cs i b) e)) };
 
     fn precedes(a: &Reach, b: &Reach) -> bool {
-        a.value > b.value
+        a > b
     }
 
     fn rows(&self) -> usize {
@@ -112,7 +97,7 @@ impl Sheet for Swings {
     }
 
     fn ledger(&self) -> u64 {
-        self.ledger
+        self.ledger.told()
     }
 
     fn entry(&mut self, row: usize, column: usize) -> Result<Reach, Refusal> {
@@ -121,7 +106,7 @@ impl Sheet for Swings {
             return Err(Refusal::NoSuchPlace);
         }
         let value = reach(&self.hull, row, column);
-        self.ledger = raised(self.ledger);
+        self.ledger.raise();
         Ok(Reach { value })
     }
 }

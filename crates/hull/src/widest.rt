@@ -25,12 +25,9 @@ impl Hull {
         if partners.len() < n {
             return Err(Refusal::ListTooShort);
         }
-        let mut greatest = self.swing(0, partners[0])?;
-        for i in 1..n {
-            let d = self.swing(i, partners[i])?;
-            if d > greatest {
-                greatest = d;
-            }
+        let mut greatest = 0;
+        for (i, partner) in partners[..n].iter().enumerate() {
+            greatest = self.swing(i, *partner)?.max(greatest);
         }
         Ok(greatest)
     }
