@@ -21,12 +21,9 @@ impl Hull {
           | Err _ ↦ Unit {0}
         ] }
     {
-        let n = self.count();
-        if partners.len() < n {
-            return Err(Refusal::ListTooShort);
-        }
+        let listed = partners.get(..self.count()).ok_or(Refusal::ListTooShort)?;
         let mut greatest = 0;
-        for (i, partner) in partners[..n].iter().enumerate() {
+        for (i, partner) in listed.iter().enumerate() {
             greatest = self.swing(i, *partner)?.max(greatest);
         }
         Ok(greatest)

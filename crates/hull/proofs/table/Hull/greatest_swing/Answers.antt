@@ -1,6 +1,6 @@
 -- One corner after the other, the greatest swing so far is kept.
-use Rattle.std.proofs.Common.{◌≡◌, ℕ, ◌<◌, length, get_or, get_or-take, take, arith, to_z-of_z, w64, SFits, rules, below_more}
-use Rattle.std.proofs.lemmas.List.{length-take-le}
+use Rattle.std.proofs.Common.{◌≡◌, ℕ, ◌<◌, length, get_or, get_or-take, take, ap, ◌∙◌, arith, to_z-of_z, w64, SFits, rules, below_more}
+use Rattle.std.proofs.lemmas.Slice.{between_from_start}
 use Rattle.hull.specs.Hulls.{corners_of}
 use Rattle.hull.proofs.Swinging.{greatest_next, greatest_of_all, greatest_is_widest}
 use Rattle.hull.proofs.table.Hull.greatest_swing.Goals as goal
@@ -9,8 +9,9 @@ pub loop-i-preserved : goal.loop-i-preserved
 loop-i-preserved c =
     let i = c.loop-i.i in
     let partners = c.args.partners.now in
-    let many : length (take c.count-n.result partners) ≡ c.count-n.result = length-take-le c.count-n.result partners (omega arith) in
-    let listed : get_or (take c.count-n.result partners) i 0 ≡ get_or partners i 0 = get_or-take c.count-n.result partners i 0 (omega arith) in
+    let found = rw (c.ok_or.ensures.ok_part, c.in_ok-listed.was) at c.get.ensures.lookup.0 in
+    let first : c.in_ok-listed.listed.now ≡ take c.count.result partners = found.2 ∙ between_from_start partners c.count.result in
+    let listed : get_or c.in_ok-listed.listed.now i 0 ≡ get_or partners i 0 = ap (λ l. get_or l i 0) first ∙ get_or-take c.count.result partners i 0 (omega (arith, found.3)) in
     let swing = rw listed at c.in_ok-swing.ensures.answer in
     let fits : SFits w64 c.in_ok-swing.field-0 = search rules in
     let greatest_fits : SFits w64 c.max-greatest.result = search rules in (
@@ -22,7 +23,8 @@ pub returns : goal.returns
 returns c =
     let cs = corners_of c.args.self.now in
     let enough = c.args.self.now.enough in
-    let all : c.loop-i.i ≡ length cs = omega (arith, length-take-le c.count-n.result c.args.partners.now (omega arith), c.count-n.ensures.value) in
+    let found = rw (c.ok_or.ensures.ok_part, c.in_ok-listed.was) at c.get.ensures.lookup.0 in
+    let all : c.loop-i.i ≡ length cs = omega (arith, found.3, c.count.ensures.value) in
     let greatest = greatest_of_all cs c.args.partners.now (length cs) _ (rw all at c.loop-i.invariant.1) (omega arith) in
     record {
       answer = (λ i h. c.loop-i.invariant.0 i (omega arith), greatest);
