@@ -1,11 +1,11 @@
 //! What can be asked of a hull, and how it is set.
 ghost use Rattle.std.specs.Prelude.{◌≡◌, ◌<◌, ◌≤◌, length, Ok, Err};
 ghost use Rattle.refusal.specs.Rules.{Broken, NoOther};
-ghost use Rattle.hull.specs.Plane.{Near, corner_at, distance};
+ghost use Rattle.hull.specs.Plane.{corner_at, distance};
 ghost use Rattle.hull.specs.Convex.{Enough, AllNear, AllLeft};
 ghost use Rattle.hull.specs.Hulls.{corners_of, triangle, SetTo, Numbered};
 
-use crate::corner::{Corner, distance};
+use crate::corner::Corner;
 use crate::shape::{all_left, all_near};
 use crate::table::{Hull, MOST_CORNERS};
 use refusal::Refusal;
@@ -80,18 +80,25 @@ impl Hull {
         ] }
     {
         if i < self.count() && j < self.count() {
-            Ok(distance(self.at(i), self.at(j)))
+            Ok(self.apart(i, j))
         } else {
             Err(Refusal::NoSuchPlace)
         }
     }
 
     /// The corner numbered i, where it is known that there is one.
-    pub(crate) fn at(&self, i: usize) -> Corner
+    fn at(&self, i: usize) -> Corner
         requires { Numbered self.now i }
         ensures value { result ≡ corner_at (corners_of self.now) i }
-        ensures near { Near result }
     {
         self.table[i]
+    }
+
+    /// The squared distance of the corners numbered i and j, where it is known that there are both.
+    pub(crate) fn apart(&self, i: usize, j: usize) -> i64
+        requires { Numbered self.now i × Numbered self.now j }
+        ensures value { result ≡ distance (corner_at (corners_of self.now) i) (corner_at (corners_of self.now) j) }
+    {
+        self.at(i).distance(self.at(j)) as i64
     }
 }

@@ -6,7 +6,6 @@ ghost use Rattle.hull.specs.Reaches.{reach, ReachesWithin};
 ghost use Rattle.hull.specs.ReachesLemmas.{reach_monotone, below_true, true_below};
 ghost use Rattle.std.proofs.Common.{rules};
 
-use crate::corner::distance;
 use crate::reach::Reach;
 use crate::table::Hull;
 use counter::Counter;
@@ -29,7 +28,7 @@ fn reach(hull: &Hull, i: usize, j: usize) -> i64
     if j <= i {
         j as i64 - i as i64
     } else if j < i + n {
-        distance(hull.at(i), hull.at(j % n))
+        hull.apart(i, j % n)
     } else {
         -1
     }

@@ -1,10 +1,9 @@
 -- Each way of the code answers its part of the row.
-use Rattle.std.proofs.Common.{◌≡◌, ◌%◌, ap, ◌∙◌, arith, to_z-of_z, w64, SFits, rules}
+use Rattle.std.proofs.Common.{◌%◌, ap, ◌∙◌, arith, to_z-of_z, w64, SFits, rules}
 use Rattle.std.proofs.lemmas.Int.{ints}
-use Rattle.hull.specs.declared.corner.Corner.{Corner}
 use Rattle.hull.specs.Plane.{distance, corner_at}
 use Rattle.hull.specs.Hulls.{corners_of}
-use Rattle.hull.specs.ReachesLemmas.{met, reach_left, reach_around, reach_right}
+use Rattle.hull.specs.ReachesLemmas.{reach_left, reach_around, reach_right}
 use Rattle.hull.proofs.swings.reach.Goals as goal
 
 pub returns-then-j-i : goal.returns-then-j-i
@@ -14,13 +13,11 @@ returns-then-j-i c =
 pub returns-then-j-i-2 : goal.returns-then-j-i-2
 returns-then-j-i-2 c =
     let cs = corners_of c.args.hull.now in
-    let fits : SFits w64 c.distance.result = search rules in
-    let second : c.at-then-j-i-2.result ≡ met cs c.args.j =
-    c.at-then-j-i-2.ensures.value ∙ ap (λ n. corner_at cs (c.args.j % n)) c.count-n.ensures.value
-    in record {
+    let fits : SFits w64 c.apart.result = search rules in
+    record {
       value =
           rw (reach_around cs c.args.i c.args.j (omega arith) (omega arith))
-          (to_z-of_z fits ∙ c.distance.ensures.value ∙ ap (λ (p : Corner). distance p c.at-then-j-i-2.result) c.at.ensures.value ∙ ap (λ (q : Corner). distance (corner_at cs c.args.i) q) second);
+          (to_z-of_z fits ∙ c.apart.ensures.value ∙ ap (λ n. distance (corner_at cs c.args.i) (corner_at cs (c.args.j % n))) c.count-n.ensures.value);
     }
 
 pub returns-else-j-i-2 : goal.returns-else-j-i-2

@@ -1,5 +1,5 @@
 -- One corner after the other, the greatest swing so far is kept.
-use Rattle.std.proofs.Common.{◌≡◌, ℕ, ◌<◌, length, get_or, get_or-take, take, ap, ◌∙◌, arith, to_z-of_z, w64, SFits, rules, below_more}
+use Rattle.std.proofs.Common.{◌≡◌, length, get_or, get_or-take, take, ap, ◌∙◌, arith, to_z-of_z, w64, SFits, rules, below_more}
 use Rattle.std.proofs.lemmas.Slice.{between_from_start}
 use Rattle.hull.specs.Hulls.{corners_of}
 use Rattle.hull.proofs.Swinging.{greatest_next, greatest_of_all, greatest_is_widest}

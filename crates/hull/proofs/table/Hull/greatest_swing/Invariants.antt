@@ -1,5 +1,5 @@
 -- Each partner so far is a corner, and the greatest of their swings is held; 0 before the first.
-use Rattle.std.proofs.Common.{◌≡◌, ℕ, ◌<◌, length, get_or, pos}
+use Rattle.std.proofs.Common.{ℕ, ◌<◌, length, get_or}
 use Rattle.hull.specs.Hulls.{corners_of}
 use Rattle.hull.proofs.Swinging.{GreatestSoFar}
 use Rattle.hull.proofs.table.Hull.greatest_swing.Given as goal
