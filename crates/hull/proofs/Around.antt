@@ -120,15 +120,15 @@ farthest_unique cs i p q hi fp fq =
     ]
 
 -- the columns found in every row, brought round, are the farthest corners
-pub columns_name_farthest : (cs : List Corner) → Enough cs → AllLeft cs → (n : ℕ) → n ≡ length cs → (columns answers : List ℕ)
-    → ((i : ℕ) → i < n → Leftmost before (row cs (0 + i)) 0 (2 * n - 1) (get_or columns i 0))
+pub columns_name_farthest : (cs : List Corner) → Enough cs → AllLeft cs → (n m : ℕ) → n ≡ length cs → m ≡ 2 * length cs - 1 → (columns answers : List ℕ)
+    → ((i : ℕ) → i < n → Leftmost before (row cs (0 + i)) 0 m (get_or columns i 0))
     → ((i : ℕ) → i < n → get_or answers i 0 ≡ get_or columns i 0 % n)
     → (i : ℕ) → i < length cs → Farthest cs i (get_or answers i 0)
-columns_name_farthest cs h f n all columns answers best brought i hi =
+columns_name_farthest cs h f n m all wide columns answers best brought i hi =
     let below : i < n = omega arith in
-    let named : get_or answers i 0 ≡ get_or columns i 0 % length cs = brought i below ∙ ap (λ m. get_or columns i 0 % m) all in
+    let named : get_or answers i 0 ≡ get_or columns i 0 % length cs = brought i below ∙ ap (λ k. get_or columns i 0 % k) all in
     rw named (best_is_farthest cs h f i (get_or columns i 0) hi
-    (subst (λ m. Leftmost before (row cs i) 0 (2 * m - 1) (get_or columns i 0)) all (subst (λ m. Leftmost before (row cs m) 0 (2 * n - 1) (get_or columns i 0)) (zero-add i) (best i below))))
+    (subst (λ k. Leftmost before (row cs i) 0 k (get_or columns i 0)) wide (subst (λ k. Leftmost before (row cs k) 0 m (get_or columns i 0)) (zero-add i) (best i below))))
 
 -- the first n columns brought round and put back: they are corners now, and the columns after them still stand
 pub put_back : (n : ℕ) (columns brought : List ℕ) → n ≤ length columns → length brought ≡ length (take n columns)

@@ -7,6 +7,7 @@ use crate::swings::Swings;
 use crate::table::Hull;
 use refusal::Refusal;
 use search::search;
+use search::sheet::Sheet;
 use search::strip::Strip;
 
 /// Makes of each column the corner that it stands for, where there is one column for each corner.
@@ -29,12 +30,12 @@ impl Swings {
           | Err why ↦ self.new ≡ self.old
         ] }
     {
-        let n = self.hull.count();
+        let n = self.rows();
         let whole = Strip {
             row: 0,
             rows: n,
             column: 0,
-            columns: 2 * n - 1,
+            columns: self.columns(),
         };
         let told = search(self, whole, answers, work)?;
         bring_round(&mut answers[..n]);

@@ -100,8 +100,7 @@ impl Sheet for Swings {
     }
 
     fn entry(&mut self, row: usize, column: usize) -> Result<Reach, Refusal> {
-        let n = self.hull.count();
-        if row >= n || column >= 2 * n - 1 {
+        if row >= self.rows() || column >= self.columns() {
             return Err(Refusal::NoSuchPlace);
         }
         let value = reach(&self.hull, row, column);

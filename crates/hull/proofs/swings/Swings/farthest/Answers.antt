@@ -10,9 +10,9 @@ returns c =
     let cs = corners_of hull in
     let long = c.in_ok-told.ensures.answer.1 in
     let searched = c.in_ok-told.ensures.answer.2 in
-    let all : c.count-n.result ≡ length cs = c.count-n.ensures.value in
-    let brought = put_back c.count-n.result c.search.new.answers c.bring_round.new.columns (omega arith) c.bring_round.auto.columns c.bring_round.ensures.brought in
-    let found = columns_name_farthest cs hull.enough hull.left c.count-n.result all c.search.new.answers _ searched.found brought.0 in
+    let all : c.rows-n.result ≡ length cs = c.rows-n.ensures.value in
+    let brought = put_back c.rows-n.result c.search.new.answers c.bring_round.new.columns (omega arith) c.bring_round.auto.columns c.bring_round.ensures.brought in
+    let found = columns_name_farthest cs hull.enough hull.left c.rows-n.result c.columns.result all c.columns.ensures.value c.search.new.answers _ searched.found brought.0 in
     record {
       answer = (
         record { for_answers = omega (arith, long.for_answers); for_work = omega (arith, long.for_work) },
