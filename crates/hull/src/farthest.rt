@@ -20,7 +20,7 @@ fn bring_round(columns: &mut [usize])
     }
 }
 
-impl<'a> Swings<'a> {
+impl Swings<'_> {
     /// Writes the farthest corner from each corner into the answers, at a tie the first met
     /// counterclockwise, and tells how far the ledger rose.
     pub fn farthest(&mut self, answers: &mut [usize], work: &mut [usize]) -> Result<u64, Refusal>

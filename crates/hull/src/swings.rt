@@ -47,7 +47,7 @@ impl<'a> Swings<'a> {
     }
 }
 
-impl<'a> Sheet for Swings<'a> {
+impl Sheet for Swings<'_> {
     type Entry = Reach;
 
     ghost before = { λ a b. int_lt b.value a.value };
