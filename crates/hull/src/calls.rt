@@ -20,10 +20,18 @@ impl Hull {
     pub fn new() -> Hull
         ensures value { corners_of result ≡ triangle }
     {
+        Hull::of(&[ORIGIN, Corner { x: 1, y: 0 }, Corner { x: 0, y: 1 }])
+    }
+
+    /// The hull of corners that are known to make one.
+    fn of(corners: &[Corner]) -> Hull
+        requires { Enough corners.now × AllNear corners.now × AllLeft corners.now }
+        ensures value { corners_of result ≡ corners.now }
+    {
+        let len = corners.len();
         let mut table = [ORIGIN; MOST_CORNERS];
-        table[1] = Corner { x: 1, y: 0 };
-        table[2] = Corner { x: 0, y: 1 };
-        Hull { table, len: 3 }
+        table[..len].copy_from_slice(corners);
+        Hull { table, len }
     }
 
     /// Takes the corners given, all or none, and tells how many they are.
@@ -44,9 +52,7 @@ impl Hull {
         if !all_left(corners) {
             return Err(Refusal::NotConvex);
         }
-        let mut table = [ORIGIN; MOST_CORNERS];
-        table[..n].copy_from_slice(corners);
-        *self = Hull { table, len: n };
+        *self = Hull::of(corners);
         Ok(n)
     }
 

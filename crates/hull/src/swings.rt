@@ -1,7 +1,7 @@
 //! The sheet of a hull: in row i the squared distances from corner i, once around.
 ghost use Rattle.std.specs.Prelude.{◌≡◌, ℕ, ◌+◌, ◌-◌, ◌*◌, ◌^◌, ◌<◌, ◌≤◌, min, true, length, int_lt};
 ghost use Rattle.hull.specs.declared.reach.Reach.{Reach};
-ghost use Rattle.hull.specs.Hulls.{corners_of};
+ghost use Rattle.hull.specs.Hulls.{corners_of, Numbered};
 ghost use Rattle.hull.specs.Reaches.{reach, ReachesWithin};
 ghost use Rattle.hull.specs.ReachesLemmas.{reach_monotone, below_true, true_below};
 ghost use Rattle.std.proofs.Common.{rules};
@@ -19,18 +19,20 @@ pub struct Swings<'a> {
     pub(crate) ledger: Counter,
 }
 
-/// Row i, column j of the sheet of a hull.
-fn reach(hull: &Hull, i: usize, j: usize) -> i64
-    requires { (i < length (corners_of hull.now)) × (j < 1024) }
-    ensures value { result ≡ reach (corners_of hull.now) i j }
-{
-    let n = hull.count();
-    if j <= i {
-        j as i64 - i as i64
-    } else if j < i + n {
-        hull.apart(i, j % n)
-    } else {
-        -1
+impl Hull {
+    /// Row i, column j of the sheet of the hull.
+    fn reach(&self, i: usize, j: usize) -> i64
+        requires { Numbered self.now i × (j < 1024) }
+        ensures value { result ≡ reach (corners_of self.now) i j }
+    {
+        let n = self.count();
+        if j <= i {
+            j as i64 - i as i64
+        } else if j < i + n {
+            self.apart(i, j % n)
+        } else {
+            -1
+        }
     }
 }
 
@@ -105,7 +107,7 @@ impl Sheet for Swings<'_> {
         if row >= self.rows() || column >= self.columns() {
             return Err(Refusal::NoSuchPlace);
         }
-        let value = reach(self.hull, row, column);
+        let value = self.hull.reach(row, column);
         self.ledger.raise();
         Ok(Reach { value })
     }

@@ -4,15 +4,15 @@ use Rattle.std.proofs.lemmas.Int.{ints}
 use Rattle.hull.specs.Plane.{distance, corner_at}
 use Rattle.hull.specs.Hulls.{corners_of}
 use Rattle.hull.specs.ReachesLemmas.{reach_left, reach_around, reach_right}
-use Rattle.hull.proofs.swings.reach.Goals as goal
+use Rattle.hull.proofs.table.Hull.reach.Goals as goal
 
 pub returns-then-j-i : goal.returns-then-j-i
 returns-then-j-i c =
-    record { value = rw (reach_left (corners_of c.args.hull.now) c.args.i c.args.j (omega arith)) (omega (arith, ints)) }
+    record { value = rw (reach_left (corners_of c.args.self.now) c.args.i c.args.j (omega arith)) (omega (arith, ints)) }
 
 pub returns-then-j-i-2 : goal.returns-then-j-i-2
 returns-then-j-i-2 c =
-    let cs = corners_of c.args.hull.now in
+    let cs = corners_of c.args.self.now in
     let fits : SFits w64 c.apart.result = search rules in
     record {
       value =
@@ -22,4 +22,4 @@ returns-then-j-i-2 c =
 
 pub returns-else-j-i-2 : goal.returns-else-j-i-2
 returns-else-j-i-2 c =
-    record { value = rw (reach_right (corners_of c.args.hull.now) c.args.i c.args.j (omega arith) (omega arith)) }
+    record { value = rw (reach_right (corners_of c.args.self.now) c.args.i c.args.j (omega arith) (omega arith)) }
