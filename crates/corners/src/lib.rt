@@ -20,6 +20,7 @@ fn whole(text: &str) -> Result<i32, Refusal>
 
 /// The corner that a line writes: two whole numbers, each with a sign or none, and one space
 /// between them.
+// A function, since FromStr for Corner would have to stand in the hull's own crate, which knows no text.
 pub fn read(line: &str) -> Result<Corner, Refusal>
     ensures answer { elim result [
       | Ok c ↦ Written line.now c

@@ -42,8 +42,7 @@ impl Hull {
               (Broken (AllLeft corners.now) 13 NoOther)) why × (self.new ≡ self.old)
         ] }
     {
-        let n = corners.len();
-        if n < FEWEST_CORNERS || n > MOST_CORNERS {
+        if !(FEWEST_CORNERS..=MOST_CORNERS).contains(&corners.len()) {
             return Err(Refusal::WrongCorners);
         }
         if !all_near(corners) {
@@ -53,7 +52,7 @@ impl Hull {
             return Err(Refusal::NotConvex);
         }
         *self = Hull::of(corners);
-        Ok(n)
+        Ok(corners.len())
     }
 
     /// How many corners there are.
@@ -70,11 +69,7 @@ impl Hull {
           | Err why ↦ Broken (Numbered self.now i) 8 NoOther why
         ] }
     {
-        if i < self.count() {
-            Ok(self.at(i))
-        } else {
-            Err(Refusal::NoSuchPlace)
-        }
+        self.corners().get(i).copied().ok_or(Refusal::NoSuchPlace)
     }
 
     /// The squared distance of the corners numbered i and j.
@@ -90,6 +85,12 @@ impl Hull {
         } else {
             Err(Refusal::NoSuchPlace)
         }
+    }
+
+    fn corners(&self) -> &[Corner]
+        ensures value { result.now ≡ corners_of self.now }
+    {
+        &self.table[..self.count()]
     }
 
     /// The corner numbered i, where it is known that there is one.

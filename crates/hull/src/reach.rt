@@ -4,5 +4,6 @@
 /// every place of a hull's sheet. The greater stands first.
 #[derive(Clone, Copy, PartialEq, Eq, PartialOrd, Ord, Debug)]
 pub struct Reach {
+    // One number for all three kinds: the sheet is lawful since entries left of the distances rise with their column.
     pub value: i64,
 }
