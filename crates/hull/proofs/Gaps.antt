@@ -1,17 +1,17 @@
 -- Gaps of 32-bit coordinates, their products, and sums and differences of two such products fit 128 bits.
-use Rattle.std.proofs.Common.{◌<◌, ◌≤◌, ◌^◌, ℤ, ◌+ℤ◌, ◌-ℤ◌, ◌*ℤ◌, FitsSigned, unsigned_abs, arith}
+use Rattle.std.proofs.Common.{ℕ, List, length, ◌<◌, ◌≤◌, ◌^◌, ℤ, ◌+ℤ◌, ◌-ℤ◌, ◌*ℤ◌, FitsSigned, unsigned_abs, arith}
 use Rattle.std.proofs.lemmas.Int.{ints}
 use Rattle.std.specs.Int.{w64, w128}
 use Rattle.hull.specs.Bounds as bounds
 use Rattle.hull.specs.declared.corner.Corner.{Corner}
-use Rattle.hull.specs.Plane.{Near, distance}
-use Rattle.hull.specs.Bounds.{abs_mul}
+use Rattle.hull.specs.Plane.{distance, corner_at}
+use Rattle.hull.specs.Convex.{AllNear}
 
 pub gap_fits : (a : ℤ) → unsigned_abs a < 2 ^ 32 → FitsSigned w128 a
 gap_fits a h = omega (arith, ints)
 
 product_wide : (a b : ℤ) → unsigned_abs a < 2 ^ 32 → unsigned_abs b < 2 ^ 32 → unsigned_abs (a *ℤ b) ≤ 18446744065119617025
-product_wide a b h g = abs_mul a b 4294967295 4294967295 (omega arith) (omega arith)
+product_wide a b h g = bounds.abs_mul a b 4294967295 4294967295 (omega arith) (omega arith)
 
 wide_fits : (a : ℤ) → unsigned_abs a ≤ 18446744065119617025 → FitsSigned w128 a
 wide_fits a h = omega (arith, ints)
@@ -33,6 +33,8 @@ difference_fits a b c d ha hb hc hd = wide_difference_fits (a *ℤ b) (c *ℤ d)
 
 pub ruleset gaps_fit = (gap_fits, product_fits, sum_fits, difference_fits)
 
--- the squared distance of near corners fits 64 bits
-pub distance_fits : (p q : Corner) → Near p → Near q → FitsSigned w64 (distance p q)
-distance_fits p q hp hq = bounds.sum_fits p.x q.x p.x q.x p.y q.y p.y q.y hp.0 hq.0 hp.0 hq.0 hp.1 hq.1 hp.1 hq.1
+-- the squared distance of two of a hull's corners fits 64 bits
+pub apart_fits : (cs : List Corner) → AllNear cs → (i j : ℕ) → i < length cs → j < length cs → FitsSigned w64 (distance (corner_at cs i) (corner_at cs j))
+apart_fits cs near i j hi hj =
+    let p = corner_at cs i in
+    let q = corner_at cs j in bounds.sum_fits p.x q.x p.x q.x p.y q.y p.y q.y (near i hi).0 (near j hj).0 (near i hi).0 (near j hj).0 (near i hi).1 (near j hj).1 (near i hi).1 (near j hj).1

@@ -87,18 +87,11 @@ impl Hull {
         }
     }
 
+    /// The corners.
     fn corners(&self) -> &[Corner]
         ensures value { result.now ≡ corners_of self.now }
     {
         &self.table[..self.count()]
-    }
-
-    /// The corner numbered i, where it is known that there is one.
-    fn at(&self, i: usize) -> Corner
-        requires { Numbered self.now i }
-        ensures value { result ≡ corner_at (corners_of self.now) i }
-    {
-        self.table[i]
     }
 
     /// The squared distance of the corners numbered i and j, where it is known that there are both.
@@ -106,6 +99,7 @@ impl Hull {
         requires { Numbered self.now i × Numbered self.now j }
         ensures value { result ≡ distance (corner_at (corners_of self.now) i) (corner_at (corners_of self.now) j) }
     {
-        self.at(i).distance(self.at(j)) as i64
+        let corners = self.corners();
+        corners[i].distance(corners[j]) as i64
     }
 }
