@@ -24,7 +24,8 @@ impl Hull {
         let listed = partners.get(..self.count()).ok_or(Refusal::ListTooShort)?;
         let mut greatest = 0;
         for (i, partner) in listed.iter().enumerate() {
-            greatest = self.swing(i, *partner)?.max(greatest);
+            let d = self.swing(i, *partner)?;
+            greatest = d.max(greatest);
         }
         Ok(greatest)
     }

@@ -12,11 +12,11 @@ loop-i-preserved c =
     let found = rw (c.ok_or.ensures.ok_part, c.in_ok-listed.was) at c.get.ensures.lookup.0 in
     let first : c.in_ok-listed.listed.now ≡ take c.count.result partners = found.2 ∙ between_from_start partners c.count.result in
     let listed : get_or c.in_ok-listed.listed.now i 0 ≡ get_or partners i 0 = ap (λ l. get_or l i 0) first ∙ get_or-take c.count.result partners i 0 (omega (arith, found.3)) in
-    let swing = rw listed at c.in_ok-swing.ensures.answer in
-    let fits : SFits w64 c.in_ok-swing.field-0 = search rules in
+    let swing = rw listed at c.in_ok-d.ensures.answer in
+    let fits : SFits w64 c.in_ok-d.d = search rules in
     let greatest_fits : SFits w64 c.max-greatest.result = search rules in (
       below_more _ _ c.loop-i.invariant.0 swing.1,
-      simp to_z-of_z (rw (simp to_z-of_z at c.max-greatest.ensures.value) (greatest_next (corners_of c.args.self.now) partners i _ c.in_ok-swing.field-0 c.loop-i.invariant.1 swing.2)),
+      simp to_z-of_z (rw (simp to_z-of_z at c.max-greatest.ensures.value) (greatest_next (corners_of c.args.self.now) partners i _ c.in_ok-d.d c.loop-i.invariant.1 swing.2)),
     )
 
 pub returns : goal.returns
