@@ -15,24 +15,21 @@ fn whole(text: &str) -> Result<i32, Refusal>
       | Err why ↦ Broken (SomeNumber text.now) 14 NoOther why
     ] }
 {
-    match text.parse::<i32>() {
-        Ok(z) => Ok(z),
-        Err(_) => Err(Refusal::NotUnderstood),
-    }
+    text.parse().map_err(|_| Refusal::NotUnderstood)
 }
 
 /// The corner that a line writes: two whole numbers, each with a sign or none, and one space
 /// between them.
+// A function, since FromStr for Corner would have to stand in the hull's own crate, which knows no text.
 pub fn read(line: &str) -> Result<Corner, Refusal>
     ensures answer { elim result [
       | Ok c ↦ Written line.now c
       | Err why ↦ Broken (SomeCorner line.now) 14 NoOther why
     ] }
 {
-    let Some((before, after)) = line.split_once(' ') else {
-        return Err(Refusal::NotUnderstood);
-    };
-    let x = whole(before)?;
-    let y = whole(after)?;
-    Ok(Corner { x, y })
+    let (x, y) = line.split_once(' ').ok_or(Refusal::NotUnderstood)?;
+    Ok(Corner {
+        x: whole(x)?,
+        y: whole(y)?,
+    })
 }

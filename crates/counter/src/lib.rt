@@ -41,8 +41,6 @@ impl Counter {
     pub fn raise(&mut self)
         ensures after { self.new.told ≡ raised self.old.told }
     {
-        if self.told < GREATEST_COUNT {
-            self.told += 1;
-        }
+        self.told = (self.told + 1).min(GREATEST_COUNT);
     }
 }

@@ -1,5 +1,6 @@
 -- The leftmost least column of row i of a hull's sheet names the corner farthest from corner i.
-use Rattle.std.proofs.Common.{◌≡◌, ℕ, ◌+◌, ◌-◌, ◌*◌, ◌%◌, ◌<◌, ◌≤◌, Bool, ◌⊎◌, List, length, get_or, ℤ, pos, negsuc, ◌-ℤ◌, ◌≤ℤ◌, ◌<ℤ◌, sym, ap, ◌∙◌, subst, inl, inr, mod-lt, zero-add, arith}
+use Rattle.std.proofs.Common.{◌≡◌, ℕ, ◌+◌, ◌-◌, ◌*◌, ◌%◌, ◌<◌, ◌≤◌, Bool, ◌⊎◌, List, length, get_or, ℤ, pos, negsuc, ◌-ℤ◌, ◌≤ℤ◌, ◌<ℤ◌, sym, ap, ◌∙◌, subst, inl, inr, mod-lt, zero-add, arith, take, drop, ◌++◌, get_or-take}
+use Rattle.std.proofs.lemmas.List.{get_or_append_left, get_or-append_right, get_or-drop, length-take-le}
 use Rattle.std.proofs.lemmas.Int.{ints}
 use Rattle.std.specs.Int.Signed.{lt_z}
 use Rattle.search.specs.Least.{Leftmost}
@@ -119,12 +120,22 @@ farthest_unique cs i p q hi fp fq =
     ]
 
 -- the columns found in every row, brought round, are the farthest corners
-pub columns_name_farthest : (cs : List Corner) → Enough cs → AllLeft cs → (n : ℕ) → n ≡ length cs → (columns answers : List ℕ)
-    → ((i : ℕ) → i < n → Leftmost before (row cs (0 + i)) 0 (2 * n - 1) (get_or columns i 0))
+pub columns_name_farthest : (cs : List Corner) → Enough cs → AllLeft cs → (n m : ℕ) → n ≡ length cs → m ≡ 2 * length cs - 1 → (columns answers : List ℕ)
+    → ((i : ℕ) → i < n → Leftmost before (row cs (0 + i)) 0 m (get_or columns i 0))
     → ((i : ℕ) → i < n → get_or answers i 0 ≡ get_or columns i 0 % n)
     → (i : ℕ) → i < length cs → Farthest cs i (get_or answers i 0)
-columns_name_farthest cs h f n all columns answers best brought i hi =
+columns_name_farthest cs h f n m all wide columns answers best brought i hi =
     let below : i < n = omega arith in
-    let named : get_or answers i 0 ≡ get_or columns i 0 % length cs = brought i below ∙ ap (λ m. get_or columns i 0 % m) all in
+    let named : get_or answers i 0 ≡ get_or columns i 0 % length cs = brought i below ∙ ap (λ k. get_or columns i 0 % k) all in
     rw named (best_is_farthest cs h f i (get_or columns i 0) hi
-    (subst (λ m. Leftmost before (row cs i) 0 (2 * m - 1) (get_or columns i 0)) all (subst (λ m. Leftmost before (row cs m) 0 (2 * n - 1) (get_or columns i 0)) (zero-add i) (best i below))))
+    (subst (λ k. Leftmost before (row cs i) 0 k (get_or columns i 0)) wide (subst (λ k. Leftmost before (row cs k) 0 m (get_or columns i 0)) (zero-add i) (best i below))))
+
+-- the first n columns brought round and put back: they are corners now, and the columns after them still stand
+pub put_back : (n : ℕ) (columns brought : List ℕ) → n ≤ length columns → length brought ≡ length (take n columns)
+    → ((k : ℕ) → k < length (take n columns) → get_or brought k 0 ≡ get_or (take n columns) k 0 % length (take n columns))
+    → ((k : ℕ) → k < n → get_or (brought ++ drop n columns) k 0 ≡ get_or columns k 0 % n) × ((k : ℕ) → n ≤ k → get_or (brought ++ drop n columns) k 0 ≡ get_or columns k 0)
+put_back n columns brought h size each =
+    let many : length (take n columns) ≡ n = length-take-le n columns h in (
+      λ k below. get_or_append_left brought (drop n columns) 0 k (omega arith) ∙ subst (λ m. get_or brought k 0 ≡ get_or (take n columns) k 0 % m) many (each k (omega arith)) ∙ ap (λ c. c % n) (get_or-take n columns k 0 below),
+      λ k past. get_or-append_right brought (drop n columns) n k 0 (size ∙ many) past ∙ get_or-drop n columns (k - n) 0 ∙ ap (λ m. get_or columns m 0) (omega arith),
+    )

@@ -1,7 +1,9 @@
 -- Strict convexity in one pass: three tests at each corner give a left turn at every three corners with rising numbers.
-use Rattle.std.proofs.Common.{◌≡◌, ℕ, zero, suc, ◌+◌, ◌-◌, ◌<◌, ◌⊎◌, sym, subst, inl, inr, arith}
+use Rattle.std.proofs.Common.{◌≡◌, ℕ, zero, suc, ◌+◌, ◌-◌, ◌<◌, ◌≤◌, ◌⊎◌, List, length, take, drop, get_or-take, pos, sym, ◌∙◌, subst, inl, inr, arith}
 use Rattle.hull.specs.declared.corner.Corner.{Corner}
-use Rattle.hull.specs.Plane.{Left}
+use Rattle.std.proofs.lemmas.List.{get_or-drop}
+use Rattle.hull.specs.Plane.{Left, corner_at}
+use Rattle.hull.specs.Convex.{AllLeft, Passes}
 use Rattle.hull.specs.PlaneLemmas.{left_before, left_beyond, left_on, left_back}
 
 below_suc : (j k : ℕ) → j < suc k → (j ≡ k) ⊎ (j < k)
@@ -68,27 +70,19 @@ star : (P : ℕ → Corner) (n : ℕ) → First P n → Fan P n → Bends P n �
 star P n f s t zero = first_star P n f s
 star P n f s t (suc i) = next_star P n i (next_sides P n i t (star P n f s t i)) (star P n f s t i)
 
--- the corners below n passed the three tests: past the first side, past each side from the first corner, at each bend
-pub record Tested (P : ℕ → Corner) (n : ℕ) : Type 0 where
-  pub past_first : First P n
-  pub fanned : Fan P n
-  pub bent : Bends P n
+-- the three tests at each three corners in a row suffice
+window_place : (corners : List Corner) (i j : ℕ) → j < 3 → corner_at (take 3 (drop i corners)) j ≡ corner_at corners (i + j)
+window_place corners i j h = get_or-take 3 (drop i corners) j (record { x = pos 0; y = pos 0 }) h ∙ get_or-drop i corners j (record { x = pos 0; y = pos 0 })
 
--- the three tests suffice
-pub tests_suffice : (P : ℕ → Corner) (n : ℕ) → Tested P n → (i j k : ℕ) → (i < j) × (j < k) × (k < n) → Left (P i) (P j) (P k)
-tests_suffice P n t i j k h = star P n t.past_first t.fanned t.bent i k j h.0 h.1 h.2
-
--- two corners pass them
-pub two_tested : (P : ℕ → Corner) → Tested P 2
-two_tested P = record { past_first = λ k a b. absurd (omega arith); fanned = λ k a b. absurd (omega arith); bent = λ k b. absurd (omega arith) }
-
--- one more corner, by the three tests at it
-pub one_more_tested : (P : ℕ → Corner) (n : ℕ) → Tested P n → Left (P 0) (P 1) (P n) → Left (P 0) (P (n - 1)) (P n) → Left (P (n - 2)) (P (n - 1)) (P n) → Tested P (n + 1)
-one_more_tested P n t at_first at_side at_bend =
-    record {
-      past_first = λ k a b. elim (below_suc k n (omega arith)) [ inl e ↦ subst (λ m. Left (P 0) (P 1) (P m)) (sym e) at_first | inr l ↦ t.past_first k a l ];
-      fanned = λ k a b. elim (below_suc (suc k) n (omega arith))
-          [ inl e ↦ rw e (let before : k ≡ n - 1 = omega arith in rw before at_side) | inr l ↦ t.fanned k a l ];
-      bent = λ k b. elim (below_suc (suc (suc k)) n (omega arith))
-          [ inl e ↦ rw e (let before : suc k ≡ n - 1 = omega arith in let earlier : k ≡ n - 2 = omega arith in rw before (rw earlier at_bend)) | inr l ↦ t.bent k l ];
-    }
+pub passes_suffice : (corners : List Corner) → ((k : ℕ) → k + 3 ≤ length corners → Passes (corner_at corners 0) (corner_at corners 1) (take 3 (drop k corners))) → AllLeft corners
+passes_suffice corners pass =
+    let P = corner_at corners in
+    let n = length corners in
+    let tests : (k : ℕ) → suc (suc k) < n → Left (P 0) (P 1) (P (k + 2)) × Left (P 0) (P (k + 1)) (P (k + 2)) × Left (P (k + 0)) (P (k + 1)) (P (k + 2)) =
+    λ k h. rw (window_place corners k 0 (omega arith), window_place corners k 1 (omega arith), window_place corners k 2 (omega arith)) at (pass k (omega arith)) in
+    let past_first : First P n = λ k a b. let e : k - 2 + 2 ≡ k = omega arith in subst (λ m. Left (P 0) (P 1) (P m)) e (tests (k - 2) (omega arith)).0 in
+    let fanned : Fan P n = λ k a b. let e : k - 1 + 1 ≡ k = omega arith in let f : k - 1 + 2 ≡ suc k = omega arith in
+    subst (λ m. Left (P 0) (P k) (P m)) f (subst (λ m. Left (P 0) (P m) (P (k - 1 + 2))) e (tests (k - 1) (omega arith)).1) in
+    let bent : Bends P n = λ k b. let e : k + 0 ≡ k = omega arith in let f : k + 1 ≡ suc k = omega arith in let g : k + 2 ≡ suc (suc k) = omega arith in
+    subst (λ m. Left (P k) (P (suc k)) (P m)) g (subst (λ m. Left (P k) (P m) (P (k + 2))) f (subst (λ m. Left (P m) (P (k + 1)) (P (k + 2))) e (tests k b).2)) in
+    λ i j k h. star P n past_first fanned bent i k j h.0 h.1 h.2

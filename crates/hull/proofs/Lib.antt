@@ -1,3 +1,5 @@
 pub mod Convex
 pub mod Around
 pub mod Swinging
+pub mod Gaps
+pub mod Windows

@@ -20,7 +20,7 @@ difference_fits a b h g = omega (arith, ints)
 abs_neg : (n : ℕ) → unsigned_abs (neg_ℤ (pos n)) ≡ n
 abs_neg n = omega (arith, ints)
 
-abs_mul : (a b : ℤ) (m n : ℕ) → unsigned_abs a ≤ m → unsigned_abs b ≤ n → unsigned_abs (a *ℤ b) ≤ m * n
+pub abs_mul : (a b : ℤ) (m n : ℕ) → unsigned_abs a ≤ m → unsigned_abs b ≤ n → unsigned_abs (a *ℤ b) ≤ m * n
 abs_mul (pos a) (pos b) m n h g = mul-le-mul h g
 abs_mul (pos a) (negsuc b) m n h g = rw abs_neg (mul-le-mul h g)
 abs_mul (negsuc a) (pos b) m n h g = rw abs_neg (mul-le-mul h g)

@@ -14,3 +14,8 @@ AllNear cs = (i : ℕ) → i < length cs → Near (corner_at cs i)
 -- strictly convex and counterclockwise: every three corners with rising numbers turn left
 abbrev pub AllLeft : List Corner → Type 0
 AllLeft cs = (i j k : ℕ) → (i < j) × (j < k) × (k < length cs) → Left (corner_at cs i) (corner_at cs j) (corner_at cs k)
+
+-- three corners in a row pass three tests: the last turns left from the first side, each side turns left from the first corner, and the three turn left
+abbrev pub Passes : Corner → Corner → List Corner → Type 0
+Passes first second bend =
+    Left first second (corner_at bend 2) × Left first (corner_at bend 1) (corner_at bend 2) × Left (corner_at bend 0) (corner_at bend 1) (corner_at bend 2)

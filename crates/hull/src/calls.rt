@@ -1,11 +1,11 @@
 //! What can be asked of a hull, and how it is set.
 ghost use Rattle.std.specs.Prelude.{◌≡◌, ◌<◌, ◌≤◌, length, Ok, Err};
 ghost use Rattle.refusal.specs.Rules.{Broken, NoOther};
-ghost use Rattle.hull.specs.Plane.{Near, corner_at, distance};
+ghost use Rattle.hull.specs.Plane.{corner_at, distance};
 ghost use Rattle.hull.specs.Convex.{Enough, AllNear, AllLeft};
 ghost use Rattle.hull.specs.Hulls.{corners_of, triangle, SetTo, Numbered};
 
-use crate::corner::{Corner, distance};
+use crate::corner::Corner;
 use crate::shape::{all_left, all_near};
 use crate::table::{Hull, MOST_CORNERS};
 use refusal::Refusal;
@@ -20,10 +20,18 @@ impl Hull {
     pub fn new() -> Hull
         ensures value { corners_of result ≡ triangle }
     {
+        Hull::of(&[ORIGIN, Corner { x: 1, y: 0 }, Corner { x: 0, y: 1 }])
+    }
+
+    /// The hull of corners that are known to make one.
+    fn of(corners: &[Corner]) -> Hull
+        requires { Enough corners.now × AllNear corners.now × AllLeft corners.now }
+        ensures value { corners_of result ≡ corners.now }
+    {
+        let len = corners.len();
         let mut table = [ORIGIN; MOST_CORNERS];
-        table[1] = Corner { x: 1, y: 0 };
-        table[2] = Corner { x: 0, y: 1 };
-        Hull { table, len: 3 }
+        table[..len].copy_from_slice(corners);
+        Hull { table, len }
     }
 
     /// Takes the corners given, all or none, and tells how many they are.
@@ -34,8 +42,7 @@ impl Hull {
               (Broken (AllLeft corners.now) 13 NoOther)) why × (self.new ≡ self.old)
         ] }
     {
-        let n = corners.len();
-        if n < FEWEST_CORNERS || n > MOST_CORNERS {
+        if !(FEWEST_CORNERS..=MOST_CORNERS).contains(&corners.len()) {
             return Err(Refusal::WrongCorners);
         }
         if !all_near(corners) {
@@ -44,12 +51,8 @@ impl Hull {
         if !all_left(corners) {
             return Err(Refusal::NotConvex);
         }
-        let mut table = [ORIGIN; MOST_CORNERS];
-        for i in 0..n {
-            table[i] = corners[i];
-        }
-        *self = Hull { table, len: n };
-        Ok(n)
+        *self = Hull::of(corners);
+        Ok(corners.len())
     }
 
     /// How many corners there are.
@@ -66,11 +69,7 @@ impl Hull {
           | Err why ↦ Broken (Numbered self.now i) 8 NoOther why
         ] }
     {
-        if i < self.count() {
-            Ok(self.at(i))
-        } else {
-            Err(Refusal::NoSuchPlace)
-        }
+        self.corners().get(i).copied().ok_or(Refusal::NoSuchPlace)
     }
 
     /// The squared distance of the corners numbered i and j.
@@ -82,18 +81,25 @@ impl Hull {
         ] }
     {
         if i < self.count() && j < self.count() {
-            Ok(distance(self.at(i), self.at(j)))
+            Ok(self.apart(i, j))
         } else {
             Err(Refusal::NoSuchPlace)
         }
     }
 
-    /// The corner numbered i, where it is known that there is one.
-    pub(crate) fn at(&self, i: usize) -> Corner
-        requires { Numbered self.now i }
-        ensures value { result ≡ corner_at (corners_of self.now) i }
-        ensures near { Near result }
+    /// The corners.
+    fn corners(&self) -> &[Corner]
+        ensures value { result.now ≡ corners_of self.now }
     {
-        self.table[i]
+        &self.table[..self.count()]
+    }
+
+    /// The squared distance of the corners numbered i and j, where it is known that there are both.
+    pub(crate) fn apart(&self, i: usize, j: usize) -> i64
+        requires { Numbered self.now i × Numbered self.now j }
+        ensures value { result ≡ distance (corner_at (corners_of self.now) i) (corner_at (corners_of self.now) j) }
+    {
+        let corners = self.corners();
+        corners[i].distance(corners[j]) as i64
     }
 }

@@ -1,9 +1,9 @@
 //! A corner, and what two or three corners make: a squared distance and a turn.
-ghost use Rattle.std.specs.Prelude.{◌≡◌, ◌≤◌, true, ◌-ℤ◌, ◌*ℤ◌, unsigned_abs};
-ghost use Rattle.hull.specs.Plane.{Coordinate, Near, turn, distance};
+ghost use Rattle.std.specs.Prelude.{◌≡◌, ◌<◌, ◌^◌, true, ◌-ℤ◌, pos, int_lt, unsigned_abs};
+ghost use Rattle.hull.specs.Plane.{Near, Left, turn, distance};
 
 /// The farthest that a coordinate may lie from 0.
-const FARTHEST_OUT: i32 = 30_000;
+const FARTHEST_OUT: u32 = 30_000;
 
 /// A corner of a hull.
 #[derive(Clone, Copy, PartialEq, Eq, Debug)]
@@ -18,34 +18,42 @@ impl Corner {
         ensures near { result ≡ true → Near self }
         ensures only { Near self → result ≡ true }
     {
-        -FARTHEST_OUT <= self.x
-            && self.x <= FARTHEST_OUT
-            && -FARTHEST_OUT <= self.y
-            && self.y <= FARTHEST_OUT
+        self.x.unsigned_abs() <= FARTHEST_OUT && self.y.unsigned_abs() <= FARTHEST_OUT
     }
-}
 
-/// The product of two differences of coordinates.
-fn product(a: i32, b: i32, c: i32, d: i32) -> i64
-    requires { (Coordinate a) × ((Coordinate b) × ((Coordinate c) × (Coordinate d))) }
-    ensures value { result ≡ (a -ℤ b) *ℤ (c -ℤ d) }
-    ensures small { unsigned_abs result ≤ 3600000000 }
-{
-    (a as i64 - b as i64) * (c as i64 - d as i64)
-}
+    /// How far this corner lies past o, along x and along y.
+    fn past(self, o: Corner) -> (i128, i128)
+        ensures value { (result.0 ≡ self.x -ℤ o.x) × (result.1 ≡ self.y -ℤ o.y) }
+        ensures small { (unsigned_abs result.0 < 2 ^ 32) × (unsigned_abs result.1 < 2 ^ 32) }
+    {
+        (
+            i128::from(self.x) - i128::from(o.x),
+            i128::from(self.y) - i128::from(o.y),
+        )
+    }
 
-/// Twice the signed area of the triangle o, p, q: positive where they turn left.
-pub(crate) fn turn(o: Corner, p: Corner, q: Corner) -> i64
-    requires { (Near o) × ((Near p) × (Near q)) }
-    ensures value { result ≡ turn o p q }
-{
-    product(p.x, o.x, q.y, o.y) - product(p.y, o.y, q.x, o.x)
-}
+    /// The squared distance to q.
+    pub(crate) fn distance(self, q: Corner) -> i128
+        ensures value { result ≡ distance self q }
+    {
+        let (x, y) = self.past(q);
+        x * x + y * y
+    }
 
-/// The squared distance of p and q.
-pub(crate) fn distance(p: Corner, q: Corner) -> i64
-    requires { (Near p) × (Near q) }
-    ensures value { result ≡ distance p q }
-{
-    product(p.x, q.x, p.x, q.x) + product(p.y, q.y, p.y, q.y)
+    /// Twice the signed area of the triangle with p and q: positive where the three turn left.
+    fn turn(self, p: Corner, q: Corner) -> i128
+        ensures value { result ≡ turn self p q }
+    {
+        let (px, py) = p.past(self);
+        let (qx, qy) = q.past(self);
+        px * qy - py * qx
+    }
+
+    /// Whether the three turn left.
+    pub(crate) fn turns_left(self, p: Corner, q: Corner) -> bool
+        ensures left { result ≡ true → Left self p q }
+        ensures only { Left self p q → result ≡ true }
+    {
+        0 < self.turn(p, q)
+    }
 }

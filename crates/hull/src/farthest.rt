@@ -7,38 +7,38 @@ use crate::swings::Swings;
 use crate::table::Hull;
 use refusal::Refusal;
 use search::search;
+use search::sheet::Sheet;
 use search::strip::Strip;
 
-/// Makes of each of the first n columns the corner that it stands for.
-fn bring_round(columns: &mut [usize], n: usize)
-    requires { (0 < n) × (n ≤ length columns.old) }
-    ensures brought { (k : ℕ) → k < n → slice_index columns.new k ≡ slice_index columns.old k % n }
-    ensures kept { (k : ℕ) → n ≤ k → slice_index columns.new k ≡ slice_index columns.old k }
+/// Makes of each column the corner that it stands for, where there is one column for each corner.
+fn bring_round(columns: &mut [usize])
+    ensures brought { (k : ℕ) → k < length columns.old → slice_index columns.new k ≡ slice_index columns.old k % length columns.old }
 {
-    for i in 0..n {
-        columns[i] %= n;
+    let n = columns.len();
+    for column in columns.iter_mut() {
+        *column %= n;
     }
 }
 
-impl Swings {
+impl Swings<'_> {
     /// Writes the farthest corner from each corner into the answers, at a tie the first met
     /// counterclockwise, and tells how far the ledger rose.
     pub fn farthest(&mut self, answers: &mut [usize], work: &mut [usize]) -> Result<u64, Refusal>
-        ensures answer { FarthestDid (corners_of self.old.hull) answers.old answers.new work.old work.new result }
+        ensures answer { FarthestDid (corners_of self.old.hull.now) answers.old answers.new work.old work.new result }
         ensures after { elim result [
-          | Ok told ↦ (self.new.hull ≡ self.old.hull) × (self.new.ledger ≡ self.old.ledger + told)
+          | Ok told ↦ (self.new.hull ≡ self.old.hull) × (self.new.ledger.told ≡ self.old.ledger.told + told)
           | Err why ↦ self.new ≡ self.old
         ] }
     {
-        let n = self.hull.count();
+        let n = self.rows();
         let whole = Strip {
             row: 0,
             rows: n,
             column: 0,
-            columns: 2 * n - 1,
+            columns: self.columns(),
         };
         let told = search(self, whole, answers, work)?;
-        bring_round(answers, n);
+        bring_round(&mut answers[..n]);
         Ok(told)
     }
 }

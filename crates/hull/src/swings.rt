@@ -1,80 +1,66 @@
 //! The sheet of a hull: in row i the squared distances from corner i, once around.
 ghost use Rattle.std.specs.Prelude.{◌≡◌, ℕ, ◌+◌, ◌-◌, ◌*◌, ◌^◌, ◌<◌, ◌≤◌, min, true, length, int_lt};
 ghost use Rattle.hull.specs.declared.reach.Reach.{Reach};
-ghost use Rattle.hull.specs.Hulls.{corners_of};
+ghost use Rattle.hull.specs.Hulls.{corners_of, Numbered};
 ghost use Rattle.hull.specs.Reaches.{reach, ReachesWithin};
 ghost use Rattle.hull.specs.ReachesLemmas.{reach_monotone, below_true, true_below};
 ghost use Rattle.std.proofs.Common.{rules};
 
-use crate::corner::distance;
 use crate::reach::Reach;
 use crate::table::Hull;
+use counter::Counter;
 use refusal::Refusal;
 use search::sheet::Sheet;
 
-/// Where the ledger stays.
-const LEDGER_FULL: u64 = 9_223_372_036_854_775_807;
-
 /// A hull's sheet: the hull, and the ledger of how many entries were read.
 #[derive(Clone, Copy)]
-pub struct Swings {
-    pub(crate) hull: Hull,
-    pub(crate) ledger: u64,
-    ghost capped: { ledger < 2 ^ 63 },
+pub struct Swings<'a> {
+    pub(crate) hull: &'a Hull,
+    pub(crate) ledger: Counter,
 }
 
-/// One more, up to 2^63 - 1.
-fn raised(ledger: u64) -> u64
-    requires { ledger < 2 ^ 63 }
-    ensures value { result ≡ min (ledger + 1) (2 ^ 63 - 1) }
-{
-    if ledger < LEDGER_FULL {
-        ledger + 1
-    } else {
-        ledger
-    }
-}
-
-/// Row i, column j of the sheet of a hull.
-fn reach(hull: &Hull, i: usize, j: usize) -> i64
-    requires { (i < length (corners_of hull.now)) × (j < 1024) }
-    ensures value { result ≡ reach (corners_of hull.now) i j }
-{
-    let n = hull.count();
-    if j <= i {
-        j as i64 - i as i64
-    } else if j < i + n {
-        distance(hull.at(i), hull.at(j % n))
-    } else {
-        -1
-    }
-}
-
-impl Swings {
-    /// The sheet of a hull, no entry of it read yet.
-    pub fn over(hull: &Hull) -> Swings
-        ensures value { (result.hull ≡ hull.now) × (result.ledger ≡ 0) }
-        ensures within { ReachesWithin (corners_of hull.now) }
+impl Hull {
+    /// Row i, column j of the sheet of the hull.
+    fn reach(&self, i: usize, j: usize) -> i64
+        requires { Numbered self.now i × (j < 1024) }
+        ensures value { result ≡ reach (corners_of self.now) i j }
     {
-        Swings {
-            hull: *hull,
-            ledger: 0,
+        let n = self.count();
+        if j <= i {
+            j as i64 - i as i64
+        } else if j < i + n {
+            self.apart(i, j % n)
+        } else {
+            -1
         }
     }
 }
 
-impl Sheet for Swings {
+impl<'a> Swings<'a> {
+    /// The sheet of a hull, no entry of it read yet.
+    pub fn over(hull: &'a Hull) -> Swings<'a>
+        ensures value { (result.hull.now ≡ hull.now) × (result.ledger.told ≡ 0) }
+        ensures within { ReachesWithin (corners_of hull.now) }
+    {
+        Swings {
+            hull,
+            ledger: Counter::new(),
+        }
+    }
+}
+
+impl Sheet for Swings<'_> {
     type Entry = Reach;
 
     ghost before = { λ a b. int_lt b.value a.value };
 
-    ghost rows = { λ s. length (corners_of s.hull) };
+    ghost rows = { λ s. length (corners_of s.hull.now) };
 
-    ghost columns = { λ s. 2 * length (corners_of s.hull) - 1 };
+    ghost columns = { λ s. 2 * length (corners_of s.hull.now) - 1 };
 
-    ghost at = { λ s i j. record { value = reach (corners_of s.hull) i j } };
+    ghost at = { λ s i j. record { value = reach (corners_of s.hull.now) i j } };
 
-    ghost ledger = { λ s. s.ledger };
+    ghost ledger = { λ s. s.ledger.told };
 
     ghost passes = { λ s t. t.hull ≡ s.hull };
 
@@ -95,12 +81,14 @@ impl Sheet for Swings {
     ghost onward = { Prim.search rules };
 
     ghost monotone = { λ s i j a b ij jn ab bn e.
-        let cs = corners_of s.hull in
+        let cs = corners_of s.hull.now in
         below_true (reach cs j a) (reach cs j b)
-        (reach_monotone cs s.hull.enough s.hull.left i j a b ij jn ab (true_below (reach cs i a) (reach cs i b) e)) };
+        (reach_monotone cs s.hull.now.enough s.hull.now.left i j a b ij jn ab (true_below (reach cs i a) (reach cs i b) e)) };
 
-    fn precedes(a: &Reach, b: &Reach) -> bool {
-        a.value > b.value
+    fn precedes(a: &Reach, b: &Reach) -> bool
+        ensures value { result ≡ int_lt b.now.value a.now.value }
+    {
+        a > b
     }
 
     fn rows(&self) -> usize {
@@ -112,16 +100,15 @@ impl Sheet for Swings {
     }
 
     fn ledger(&self) -> u64 {
-        self.ledger
+        self.ledger.told()
     }
 
     fn entry(&mut self, row: usize, column: usize) -> Result<Reach, Refusal> {
-        let n = self.hull.count();
-        if row >= n || column >= 2 * n - 1 {
+        if row >= self.rows() || column >= self.columns() {
             return Err(Refusal::NoSuchPlace);
         }
-        let value = reach(&self.hull, row, column);
-        self.ledger = raised(self.ledger);
+        let value = self.hull.reach(row, column);
+        self.ledger.raise();
         Ok(Reach { value })
     }
 }

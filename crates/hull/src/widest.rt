@@ -21,16 +21,11 @@ impl Hull {
           | Err _ ↦ Unit {0}
         ] }
     {
-        let n = self.count();
-        if partners.len() < n {
-            return Err(Refusal::ListTooShort);
-        }
-        let mut greatest = self.swing(0, partners[0])?;
-        for i in 1..n {
-            let d = self.swing(i, partners[i])?;
-            if d > greatest {
-                greatest = d;
-            }
+        let listed = partners.get(..self.count()).ok_or(Refusal::ListTooShort)?;
+        let mut greatest = 0;
+        for (i, partner) in listed.iter().enumerate() {
+            let d = self.swing(i, *partner)?;
+            greatest = d.max(greatest);
         }
         Ok(greatest)
     }

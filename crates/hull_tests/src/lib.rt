@@ -39,10 +39,10 @@ mod tests {
         assert_eq!(rt; hull.set(&square()), Ok(4));
         let mut answers = [99; 6];
         let mut work = [99; 18];
-        match hull.farthest(&mut answers, &mut work) {
-            Ok(told) => assert!(rt; told <= 76),
-            Err(why) => assert_eq!(rt; why.number(), 0),
-        }
+        assert!(rt;
+            hull.farthest(&mut answers, &mut work)
+                .is_ok_and(|told| told <= 76)
+        );
         assert_eq!(rt; answers, [2, 3, 0, 1, 99, 99]);
         assert_eq!(rt; [work[16], work[17]], [99, 99]);
         assert_eq!(rt; hull.greatest_swing(&answers), Ok(32));

@@ -7,58 +7,62 @@ use hull::table::{Hull, MOST_CORNERS};
 use refusal::Refusal;
 use std::io;
 use std::io::ErrorKind;
+use thiserror::Error;
 
 /// Four places of work for each corner.
 const WORK: usize = 4 * MOST_CORNERS;
 
-/// Says which refusal it was, and what that means.
-fn say_refused(rt: &HostRuntime, why: Refusal) -> io::Result<()> {
-    let number = why.number();
-    let meaning = why.meaning();
-    println!(rt; "refused {number}: {meaning}")
+/// Why not all is told.
+#[derive(Debug, Drop, Error)]
+enum Stop {
+    #[error("refused {number}: {meaning}", number = .0.number(), meaning = .0.meaning())]
+    Refused(#[from] Refusal),
+    #[error("line {place}: refused {number}: {meaning}", number = .why.number(), meaning = .why.meaning())]
+    Line { place: usize, why: Refusal },
+    #[error(transparent)]
+    Fault(#[from] io::Error),
+}
+
+/// The corner that a line of the input writes. A line that is no text writes none.
+fn corner_of(line: io::Result<String>) -> io::Result<Result<Corner, Refusal>> {
+    match line {
+        Ok(line) => Ok(read(line.as_str())),
+        Err(fault) if fault.kind() == ErrorKind::InvalidData => Ok(Err(Refusal::NotUnderstood)),
+        Err(fault) => Err(fault),
+    }
+}
+
+/// The hull of the corners that the lines of the input write.
+fn read_hull(rt: &HostRuntime) -> Result<Hull, Stop> {
+    let mut corners: Vec<Corner> = Vec::new(rt.alloc());
+    for (place, line) in rt.lines(rt.alloc()).enumerate() {
+        let corner = corner_of(line)?.map_err(|why| Stop::Line { place, why })?;
+        corners.push(corner).map_err(io::Error::from)?;
+    }
+    let mut hull = Hull::new();
+    hull.set(&corners)?;
+    Ok(hull)
 }
 
 /// Says of each corner which one is farthest, and how far, then the greatest swing and the entries read.
-fn say_swings(rt: &HostRuntime, hull: &Hull) -> io::Result<()> {
+fn say_swings(rt: &HostRuntime) -> Result<(), Stop> {
+    let hull = read_hull(rt)?;
     let mut farthest = [0; MOST_CORNERS];
     let mut work = [0; WORK];
-    let read = match hull.farthest(&mut farthest, &mut work) {
-        Ok(read) => read,
-        Err(why) => return say_refused(rt, why),
-    };
+    let read = hull.farthest(&mut farthest, &mut work)?;
     for (i, j) in farthest.iter().enumerate().take(hull.count()) {
-        match hull.swing(i, *j) {
-            Ok(d) => println!(rt; "corner {i}: farthest {j}, squared distance {d}")?,
-            Err(why) => say_refused(rt, why)?,
-        }
+        let d = hull.swing(i, *j)?;
+        println!(rt; "corner {i}: farthest {j}, squared distance {d}")?;
     }
-    match hull.greatest_swing(&farthest) {
-        Ok(d) => println!(rt; "greatest swing: {d}")?,
-        Err(why) => say_refused(rt, why)?,
-    }
-    println!(rt; "entries read: {read}")
+    println!(rt; "greatest swing: {}", hull.greatest_swing(&farthest)?)?;
+    println!(rt; "entries read: {read}")?;
+    Ok(())
 }
 
 fn main(rt: HostRuntime) -> io::Result<()> {
-    let mut corners: Vec<Corner> = Vec::new(rt.alloc());
-    for (place, line) in rt.lines(rt.alloc()).enumerate() {
-        let answer = match line {
-            Ok(line) => read(line.as_str()),
-            // a line that is no text is no corner either
-            Err(fault) if fault.kind() == ErrorKind::InvalidData => Err(Refusal::NotUnderstood),
-            Err(fault) => return Err(fault),
-        };
-        match answer {
-            Ok(corner) => corners.push(corner)?,
-            Err(why) => {
-                print!(rt; "line {place}: ")?;
-                return say_refused(&rt, why);
-            }
-        }
-    }
-    let mut hull = Hull::new();
-    match hull.set(&corners) {
-        Ok(_) => say_swings(&rt, &hull),
-        Err(why) => say_refused(&rt, why),
+    match say_swings(&rt) {
+        Ok(()) => Ok(()),
+        Err(Stop::Fault(fault)) => Err(fault),
+        Err(stop) => println!(rt; "{stop}"),
     }
 }

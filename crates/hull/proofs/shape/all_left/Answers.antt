@@ -1,26 +1,22 @@
-use Rattle.std.proofs.Common.{◌≡◌, ◌-◌, length, refl, arith}
+use Rattle.std.proofs.Common.{◌≡◌, ℕ, ◌+◌, ◌≤◌, length, rules, take, drop, pos, ap, ◌∙◌, arith}
+use Rattle.std.proofs.lemmas.Option.{IfSome_then}
+use Rattle.std.specs.Slice.Iter.{windows_rest, windows_size}
+use Rattle.std.specs.Slice.ArrayWindows.{array_windows_parts}
+use Rattle.hull.specs.Convex.{Passes}
 use Rattle.hull.specs.Plane.{corner_at}
-use Rattle.hull.specs.PlaneLemmas.{left_tested}
-use Rattle.hull.proofs.Convex.{two_tested, one_more_tested, tests_suffice}
+use Rattle.hull.proofs.Convex.{passes_suffice}
+use Rattle.hull.proofs.Windows.{windows_hold}
 use Rattle.hull.proofs.shape.all_left.Goals as goal
 
-pub loop-i-init : goal.loop-i-init
-loop-i-init c = two_tested (corner_at c.args.corners.now)
-
-pub loop-i-preserved : goal.loop-i-preserved
-loop-i-preserved c =
-    let P = corner_at c.args.corners.now in
-    let i = c.loop-i.i in
-    one_more_tested P i c.loop-i.invariant
-    (left_tested (P 0) (P 1) (P i) c.if-not-left.ensures.value)
-    (left_tested (P 0) (P (i - 1)) (P i) c.if-not-left-2.ensures.value)
-    (left_tested (P (i - 2)) (P (i - 1)) (P i) c.if-not-left-3.ensures.value)
-
-pub returns : goal.returns
-returns c =
-    record {
-      left = λ _.
-          let e : c.loop-i.i ≡ length c.args.corners.now = omega arith
-          in tests_suffice (corner_at c.args.corners.now) (length c.args.corners.now) (rw e at c.loop-i.invariant);
-      only = λ _. refl;
-    }
+pub returns-clause-left : goal.returns-clause-left
+returns-clause-left c = λ e.
+    let corners = c.args.corners.now in
+    let P = corner_at corners in
+    let run = rw e at c.all.ensures.runs in
+    let p = run.0 in
+    let size : windows_size (array_windows_parts p.from) ≡ 3 = ap (λ s. windows_size (array_windows_parts s)) run.1 ∙ c.array_windows.ensures.size in
+    let rest : windows_rest (array_windows_parts p.from) ≡ corners = ap (λ s. windows_rest (array_windows_parts s)) run.1 ∙ c.array_windows.ensures.rest in
+    let windows = c.array_windows.ensures.runs p p.seen (omega (arith, size)) in
+    let pass : (k : ℕ) → k + 3 ≤ length corners → Passes (P 0) (P 1) (take 3 (drop k corners)) =
+    windows_hold p _ _ windows run.2.0 (Passes (P 0) (P 1)) (λ k. IfSome_then (p.at k) (run.2.1 (λ a r f q. search rules) k) (λ x q. search rules)) (record { x = pos 0; y = pos 0 }) 3 corners size rest in
+    passes_suffice corners pass
