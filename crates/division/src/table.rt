@@ -93,10 +93,7 @@ impl Table {
         if k == 0 && j == 0 {
             return Cost::Number(0);
         }
-        match cell(k, j) {
-            Some(i) => read(self.tallies[i]),
-            None => Cost::Empty,
-        }
+        cell(k, j).map_or(Cost::Empty, |i| read(self.tallies[i]))
     }
 
     /// The tally as the round of k + 1 spans takes it: empty above what seven spans weigh at most.
@@ -114,10 +111,7 @@ impl Table {
     fn cut(&self, k: usize, j: usize) -> usize
         ensures value { result ≡ cut_at self.now k j }
     {
-        match cell(k, j) {
-            Some(i) => usize::from(self.cuts[i]).min(MOST_READINGS),
-            None => 0,
-        }
+        cell(k, j).map_or(0, |i| usize::from(self.cuts[i]).min(MOST_READINGS))
     }
 
     /// Puts a tally and its last cut into the cell of k spans and j readings, if there is such a cell and they fit it.
