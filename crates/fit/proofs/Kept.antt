@@ -1,6 +1,7 @@
 -- What was read of a round is kept in the table's row of one span more, and the rounds together fill it.
-use Rattle.std.proofs.Common.{◌≡◌, ℕ, suc, ◌+◌, ◌-◌, ◌*◌, ◌^◌, ◌<◌, ◌≤◌, cond, ltb, List, get_or, sym, refl, ap, ◌∙◌, subst, ⊎_elim, add-mul, one-mul, arith}
+use Rattle.std.proofs.Common.{◌≡◌, ℕ, suc, ◌+◌, ◌-◌, ◌*◌, ◌^◌, ◌<◌, ◌≤◌, cond, ltb, List, length, get_or, take, sym, refl, ap, ◌∙◌, subst, ⊎_elim, add-mul, one-mul, length-take-le, get_or-take, arith}
 use Rattle.std.proofs.lemmas.Bool.{cond-false, le-ltb, cases_lt}
+use Rattle.counter.specs.declared.Counter.{Counter}
 use Rattle.search.specs.Reading.{Reads}
 use Rattle.search.specs.Least.{Leftmost}
 use Rattle.search.proofs.Least.{leftmost_same}
@@ -118,16 +119,30 @@ module _ {W : Type 0} (m : Ghosts W) where
             (a.0 ∙ b.0, a.1 ∙ b.1);
       }
 
+  -- what is kept of the first places of a list
+  pub kept_front : {s t : Rounds W} {mark many : ℕ} (columns : List ℕ) → many ≤ length columns → KeptAll m s t mark (length (take many columns)) (take many columns) → KeptAll m s t mark many columns
+  kept_front {s} {t} {mark} {many} columns le kept =
+      let all = rw (length-take-le many columns le) at kept in
+      record {
+        weighed = all.weighed;
+        round_same = all.round_same;
+        tallies = λ i l. rw (get_or-take many columns i 0 l) at (all.tallies i l);
+        cuts = λ i l. all.cuts i l ∙ get_or-take many columns i 0 l;
+        others = all.others;
+      }
+
   -- the state in which round k begins
-  abbrev pub begun : Rounds W → ℕ → Rounds W
-  begun s k = record { weighing = s.weighing; table = s.table; round = k; ledger = 0 }
+  abbrev pub begun : Rounds W → Counter → ℕ → Rounds W
+  begun s ledger k = record { weighing = s.weighing; table = s.table; round = k; ledger = ledger }
 
   -- what the search left as t and the keeping as u of round k over n readings
   pub record Ran (s t u : Rounds W) (k mark n told : ℕ) (answers answers' work work' : List ℕ) : Type 0 where
-    pub found : (i : ℕ) → i < n - mark → Leftmost before (entry_of m (begun s k) (mark + i)) 0 n (get_or answers' i 0)
+    pub ledger : Counter
+    pub unread : ledger.told ≡ 0
+    pub found : (i : ℕ) → i < n - mark → Leftmost before (entry_of m (begun s ledger k) (mark + i)) 0 n (get_or answers' i 0)
     pub few : told ≤ 4 * n + 12 * (n - mark)
-    pub risen : ledger_of t ≡ 0 + told
-    pub passed : Passing m (begun s k) t
+    pub risen : ledger_of t ≡ ledger.told + told
+    pub passed : Passing m (begun s ledger k) t
     pub kept : KeptAll m t u mark (n - mark) answers'
     pub answers_kept : KeptFrom (n - mark) answers answers'
     pub work_kept : KeptFrom (4 * (n - mark)) work work'
@@ -151,7 +166,7 @@ module _ {W : Type 0} (m : Ghosts W) where
         let weight : ℕ → ℕ → ℕ = m.weight s.weighing in
         let round : suc t.round ≡ suc k = ap suc ran.passed.round_same in
         let cut : cut_at u.table (suc k) (mark + i + 1) ≡ get_or answers' i 0 = subst (λ x. cut_at u.table x (mark + i + 1) ≡ get_or answers' i 0) round (ran.kept.cuts i l) in
-        let entry = entry_stands (record { weighing = s.weighing; table = s.table; round = k; ledger = 0 }) t (mark + i) (get_or answers' i 0) ran.passed.weighing_same ran.passed.round_same (λ j. ap (λ x. tally_at x k j) ran.passed.table_same) (omega arith) in
+        let entry = entry_stands (begun s ran.ledger k) t (mark + i) (get_or answers' i 0) ran.passed.weighing_same ran.passed.round_same (λ j. ap (λ x. tally_at x k j) ran.passed.table_same) (omega arith) in
         let tally : tally_at u.table (suc k) (mark + i + 1) ≡ round_entry weight (carried_at s.table k) (mark + i + 1) (get_or answers' i 0) = subst (λ x. tally_at u.table x (mark + i + 1) ≡ entry_of m t (mark + i) (get_or answers' i 0)) round (ran.kept.tallies i l) ∙ entry in
         record {
           least = subst (λ c. Leftmost before (round_entry weight (carried_at u.table k) (mark + i + 1)) 0 (m.held s.weighing) c) (sym cut) (leftmost_same (λ a x y. entry_from (mark + i + 1) a) (ran.found i l));
@@ -159,7 +174,7 @@ module _ {W : Type 0} (m : Ghosts W) where
         }
 
     pub round_done : mark < m.held s.weighing → m.held s.weighing ≤ 512 → RoundDone m s u k mark answers answers' work work'
-    round_done some most = let few = ran.few in record {
+    round_done some most = let few = ran.few in let none = ran.unread in record {
       weighed = weighed_more (4 * m.held s.weighing + 13 * (m.held s.weighing - mark)) (omega arith) (passing_weighed told ran.passed ran.risen (omega arith)) ran.kept.weighed;
       filled = λ j a b. let e : mark + (j - mark - 1) + 1 ≡ j = omega arith in subst (λ x. Filled (m.weight s.weighing) u.table (m.held s.weighing) k x) e (row_filled (j - mark - 1) (omega arith));
       others = others_same;

@@ -1,5 +1,4 @@
-use Rattle.std.proofs.Common.{◌≡◌, ℕ, ◌-◌, ◌*◌, ◌<◌, ◌≤◌, length, refl, subst, arith}
-use Rattle.fit.specs.Filling.{RoundsDone}
+use Rattle.std.proofs.Common.{◌≡◌, ℕ, ◌-◌, ◌*◌, ◌<◌, ◌≤◌, length, refl, arith}
 use Rattle.fit.proofs.Sound.{settled_all}
 use Rattle.fit.proofs.fit.Fit.settle.Goals as goal
 
@@ -19,6 +18,6 @@ returns g c =
       answer = (
         omega arith,
         record { for_answers = answers; for_work = work },
-        settled_all m (λ w a b l h. let x = met.bounded w a b l h in let y = met.topped w in omega arith) (subst (λ k. RoundsDone m f.rounds c.run_all.new.self k f.mark c.args.answers.now c.run_all.new.answers c.args.work.now c.run_all.new.work) c.min.ensures c.run_all.ensures.after) refl n some (difference c.count.ensures.value c.count-before.ensures.value),
+        settled_all m (λ w a b l h. let x = met.bounded w a b l h in let y = met.topped w in omega arith) c.run_all.ensures.after refl n some (difference c.count.ensures.value c.count-before.ensures.value),
       );
     }
