@@ -1,40 +1,28 @@
 -- The caller's promise from the law over runs: its run of three calls is one of those that the law speaks of.
-use Rattle.std.proofs.Common.{◌≡◌, ℕ, zero, suc, ◌+◌, ◌-◌, ◌<◌, ◌≤◌, Bool, true, false, ◌⊎◌, List, [], ◌∷◌, map, length, replicate, Ok, Err, Result, refl, ap, subst, inl, inr, arith}
+use Rattle.std.proofs.Common.{◌≡◌, ℕ, zero, suc, ◌+◌, ◌-◌, ◌<◌, ◌≤◌, Bool, true, false, ◌⊎◌, List, [], ◌∷◌, map, length, replicate, Ok, Err, Result, refl, ap, ◌∙◌, subst, inl, inr, arith}
+use Rattle.std.proofs.lemmas.List.{length-map, length-replicate}
 use Rattle.refusal.specs.declared.Refusal.{Refusal}
 use Rattle.refusal.specs.Rules.{Broken, NoOther}
 use Rattle.weighing.specs.declared.weighing.Weighing.{Ghosts}
 use Rattle.weighing.specs.Did as weighing
 use Rattle.division.specs.Divide.{Answered, BestFits}
-use Rattle.division.specs.Divisions.{Divides}
+use Rattle.division.proofs.Tallies.{spans_le}
 use Rattle.fit.specs.declared.fit.Fit.{Fit}
 use Rattle.runs.specs.declared.step.Call.TheVariants.{Take, Settle, Divide}
 use Rattle.runs.specs.declared.step.Answer.{Answer}
 use Rattle.runs.specs.declared.step.Answer.TheVariants.{Held, Settled, Divided, Weight}
-use Rattle.fit.specs.Calls.{Opens, TakeDid, SettleDid, Long, weighing_of, limit_of}
+use Rattle.fit.specs.Calls.{Opens, TakeDid, SettleDid, Allowed, Long, weighing_of, limit_of}
 use Rattle.fit.specs.Rounds.{SameWeighing}
-use Rattle.runs.specs.Runs.{ByHeld, BySettled, ByDivided, Lists, Did, Event, Reached, opened, called, settled, Asked, SettleMeets, DivideMeets, Law}
+use Rattle.runs.specs.Runs.{ByHeld, BySettled, ByDivided, Lists, Did, Event, Reached, opened, called, settled, SettleMeets, DivideMeets, Law}
 use Rattle.fit_tests.specs.Caller.{CutDid}
-
-brought_many : (n : ℕ) → length (replicate n false) ≡ n
-brought_many zero = refl
-brought_many (suc n) = ap suc (brought_many n)
 
 brought_unsettled : (n : ℕ) → settled (replicate n false) ≡ 0
 brought_unsettled zero = refl
 brought_unsettled (suc n) = brought_unsettled n
 
-settled_many : (n : ℕ) → length (map (λ (r : Bool). true) (replicate n false)) ≡ n
-settled_many zero = refl
-settled_many (suc n) = ap suc (settled_many n)
-
 all_settled : (rs : List Bool) → settled (map (λ (r : Bool). true) rs) ≡ length (map (λ (r : Bool). true) rs)
 all_settled [] = refl
 all_settled (r ∷ rs) = let h = all_settled rs in omega arith
-
--- each span of a division has a reading
-spans_few : (from to : ℕ) (ends : List ℕ) → Divides from ends to → from + length ends ≤ to
-spans_few from to [] d = omega arith
-spans_few from to (e ∷ ends) d = let h = spans_few e to ends d.1 in let l = d.0 in omega arith
 
 -- the only rule may stand before others
 first_rule : {A Number Later : Type 0} → ((A → ⊥) × Number) ⊎ (A × ⊥) → ((A → ⊥) × Number) ⊎ (A × Later)
@@ -76,10 +64,10 @@ module _ {W : Type 0} (m : Ghosts W) (w : W) (reading limit k : ℕ) (f0 f1 : Fi
     reached_one = called take_event (opened o) taken
 
     many_unsettled : length rs - settled rs ≡ m.held w + 1
-    many_unsettled = let a = brought_many (m.held w) in let b = brought_unsettled (m.held w) in omega arith
+    many_unsettled = let a = length-replicate (m.held w) false in let b = brought_unsettled (m.held w) in omega arith
 
     settle_short : (why : Refusal) → Broken (0 < length rs) 5 (Broken (Long (length rs - settled rs) l1.ends l1.work) 9 NoOther) why
-        → Broken (Long (m.held w + 1) l0.ends l0.work) 9 (Broken (Asked (limit_of limit) k) 6 NoOther) why
+        → Broken (Long (m.held w + 1) l0.ends l0.work) 9 (Broken (Allowed (limit_of limit) k) 6 NoOther) why
     settle_short why (inl b) = absurd (b.0 (omega arith))
     settle_short why (inr b) = first_rule (subst (λ l. Broken (Long (m.held w + 1) l.ends l.work) 9 NoOther why) taken.1 (subst (λ n. Broken (Long n l1.ends l1.work) 9 NoOther why) many_unsettled b.1))
 
@@ -104,13 +92,13 @@ module _ {W : Type 0} (m : Ghosts W) (w : W) (reading limit k : ℕ) (f0 f1 : Fi
       settle_long = subst (λ n. Long n l1.ends l1.work) many_unsettled (told_settled (SettleMeets m (weighing_of f1) (weighing_of f2) (limit_of limit) rs l1 l2) b (law-settle w limit _ reached_one)).1.1
 
       many : length all ≡ m.held w + 1
-      many = let h = settled_many (m.held w) in omega arith
+      many = length-map rs (λ (r : Bool). true) ∙ ap suc (length-replicate (m.held w) false) ∙ omega arith
 
       fits : BestFits (m.weight (weighing_of f2)) (length all) k (length l2.ends)
-      fits ends best = let h = spans_few 0 (length all) ends best.divides in let n = many in let l = settle_long.for_answers in omega arith
+      fits ends best = let h = spans_le 0 ends (length all) best.divides in let n = many in let l = settle_long.for_answers in omega arith
 
-      asked : (why : Refusal) → Broken (0 < length all) 5 (Broken (settled all ≡ length all) 7 (Broken (Asked (limit_of limit) k) 6 (Broken (BestFits (m.weight (weighing_of f2)) (length all) k (length l2.ends)) 9 NoOther))) why
-          → Broken (Asked (limit_of limit) k) 6 NoOther why
+      asked : (why : Refusal) → Broken (0 < length all) 5 (Broken (settled all ≡ length all) 7 (Broken (Allowed (limit_of limit) k) 6 (Broken (BestFits (m.weight (weighing_of f2)) (length all) k (length l2.ends)) 9 NoOther))) why
+          → Broken (Allowed (limit_of limit) k) 6 NoOther why
       asked why (inl b) = absurd (b.0 (omega arith))
       asked why (inr (some, inl b)) = absurd (b.0 (all_settled rs))
       asked why (inr (some, inr (settled, inl b))) = inl b
