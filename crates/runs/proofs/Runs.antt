@@ -164,7 +164,8 @@ module _ {W : Type 0} (m : Ghosts W) (limit : ℕ) (rs : List Bool) (f f' : Fit 
   some_size = subst (λ n. 0 < n) k.many
 
   settle_told : {told : ℕ} → told ≤ f.limit * (4 * size m f + 13 * unsettled m f) → told ≤ limit * (4 * length rs + 13 * (length rs - settled rs))
-  settle_told few = rw (← k.limited, ← many_is, ← unsettled_is) few
+  settle_told {told} few =
+      subst (λ x. told ≤ x * (4 * length rs + 13 * (length rs - settled rs))) k.limited (subst (λ x. told ≤ f.limit * (4 * length rs + 13 * x)) unsettled_is (subst (λ x. told ≤ f.limit * (4 * x + 13 * unsettled m f)) many_is few))
 
   meets : (call : Call) (l l' : Lists) (r : Result Answer Refusal) → Did m f call l r f' l' → Meets m (weighing_of f) (weighing_of f') limit rs call l r l'
   meets (Take x) l l' r d = (

@@ -18,6 +18,7 @@ fn make_all<W: Weighing>(
 )
     ensures after { (w : W) (k : ℕ) → Opens W.Weighing w k fit.old → Ran W.Weighing w k (min (length calls.now) (length answers.old)) calls.now answers.old answers.new fit.new }
 {
+    // By index: of elements that an iterator lends to be written, a proof learns no value.
     for i in 0..calls.len().min(answers.len()) {
         answers[i] = step(fit, calls[i], ends, work);
     }
