@@ -330,16 +330,17 @@ fn run_makes_the_calls_that_have_room(rt: HostRuntime) {
     );
     assert_eq!(rt; fit.held(), 2);
     assert_eq!(rt;
-        answers[..4],
+        &answers[..4],
         [
             Ok(Answer::Held(1)),
             Err(Refusal::ReadingFalls),
             Ok(Answer::Held(2)),
             Err(Refusal::NotSettled),
         ]
+        .as_slice()
     );
     assert_eq!(rt;
-        answers[5..],
+        &answers[5..],
         [
             Ok(Answer::Settled(0)),
             Ok(Answer::Divided(Told {
@@ -347,6 +348,7 @@ fn run_makes_the_calls_that_have_room(rt: HostRuntime) {
                 weight: 0,
             })),
         ]
+        .as_slice()
     );
     assert_eq!(rt; ends, [1, 2, UNTOUCHED]);
 }
