@@ -39,6 +39,7 @@ impl<W: Weighing> Rounds<W> {
     }
 
     // One round over the readings from `mark` on.
+    // Two lists and no struct that lends both: each contract would have to add that either field is still the caller's list.
     fn run(&mut self, round: usize, mark: usize, answers: &mut [usize], work: &mut [usize])
         requires round { round < 8 }
         requires ahead { Ahead W.Weighing self.old mark answers.old work.old }

@@ -9,6 +9,7 @@ use refusal::Refusal;
 use weighing::weighing::Weighing;
 
 // Makes each call, as many as there is room for answers.
+// Two lists and no struct that lends both: each contract would have to add that either field is still the caller's list.
 fn make_all<W: Weighing>(
     fit: &mut Fit<W>,
     calls: &[Call],

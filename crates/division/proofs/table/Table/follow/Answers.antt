@@ -2,12 +2,8 @@
 use Rattle.std.proofs.Common.{◌≡◌, ℕ, ◌+◌, ◌-◌, refl, ap, ◌∙◌, arith, drop-set-lt}
 use Rattle.division.specs.Tables.{cut_at}
 use Rattle.division.specs.Trails.{trail}
-use Rattle.division.proofs.Places.{follow_none, follow_more}
+use Rattle.division.proofs.Places.{follow_more}
 use Rattle.division.proofs.table.Table.follow.Goals as goal
-
-pub loop-i-init : goal.loop-i-init
-loop-i-init c =
-    (omega arith, follow_none (trail (cut_at c.args.self.now) c.args.s c.args.n) c.args.s c.args.ends.now, refl)
 
 pub loop-i-preserved : goal.loop-i-preserved
 loop-i-preserved c =

@@ -1,5 +1,5 @@
 use Rattle.std.proofs.Common.{◌+◌, ◌<◌, arith}
-use Rattle.fit.proofs.Kept.{kept_none, kept_more}
+use Rattle.fit.proofs.Kept.{kept_more}
 use Rattle.fit.proofs.rounds.Rounds.keep_all.Goals as goal
 
 pub loop-i-preserved : goal.loop-i-preserved

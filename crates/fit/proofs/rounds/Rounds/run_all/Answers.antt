@@ -1,4 +1,4 @@
-use Rattle.fit.proofs.Kept.{rounds_none, rounds_more}
+use Rattle.fit.proofs.Kept.{rounds_more}
 use Rattle.fit.proofs.rounds.Rounds.run_all.Goals as goal
 
 pub loop-round-preserved : goal.loop-round-preserved
