@@ -42,10 +42,6 @@ told_settled P (Divided t) p = absurd p
 told_settled P (Weight v) p = absurd p
 
 module _ {W : Type 0} (m : Ghosts W) (w : W) (reading limit k : ℕ) (f0 f1 : Fit W) (l0 l1 : Lists) (o : Opens m w limit f0) where
-  pub take_refused : (ends' : List ℕ) (why : Refusal) → Law m f0 f1 (Take reading) l0 (Err why) l1 → CutDid m w reading limit k l0.ends l0.work ends' (Err why)
-  take_refused ends' why law =
-      first_rule (subst (λ v. Broken (m.verdict v reading ≡ 0) (m.verdict v reading) NoOther why) o.owns (law w limit [] (opened o)).0)
-
   -- the reading is taken
   module _ (a : Answer) (taken : Did m f0 (Take reading) l0 (Ok a) f1 l1) (f2 : Fit W) (l2 : Lists) where
     abbrev rs : List Bool
@@ -65,14 +61,6 @@ module _ {W : Type 0} (m : Ghosts W) (w : W) (reading limit k : ℕ) (f0 f1 : Fi
 
     many_unsettled : length rs - settled rs ≡ m.held w + 1
     many_unsettled = let a = length-replicate (m.held w) false in let b = brought_unsettled (m.held w) in omega arith
-
-    settle_short : (why : Refusal) → Broken (0 < length rs) 5 (Broken (Long (length rs - settled rs) l1.ends l1.work) 9 NoOther) why
-        → Broken (Long (m.held w + 1) l0.ends l0.work) 9 (Broken (Allowed (limit_of limit) k) 6 NoOther) why
-    settle_short why (inl b) = absurd (b.0 (omega arith))
-    settle_short why (inr b) = first_rule (subst (λ l. Broken (Long (m.held w + 1) l.ends l.work) 9 NoOther why) taken.1 (subst (λ n. Broken (Long n l1.ends l1.work) 9 NoOther why) many_unsettled b.1))
-
-    pub settle_refused : (ends' : List ℕ) (why : Refusal) → Law m f1 f2 Settle l1 (Err why) l2 → CutDid m w reading limit k l0.ends l0.work ends' (Err why)
-    settle_refused ends' why law = inr (took.0, settle_short why (law w limit _ reached_one).0)
 
     -- and all are settled
     module _ (b : Answer) (settles : Did m f1 Settle l1 (Ok b) f2 l2) (law-settle : Law m f1 f2 Settle l1 (Ok b) l2) (f3 : Fit W) (l3 : Lists) (as_long : length l2.ends ≡ length l1.ends) where
