@@ -1,16 +1,13 @@
 -- A table that is filled round by round is right, and stays right.
-use Rattle.std.proofs.Common.{◌≡◌, ℕ, zero, suc, ◌+◌, ◌<◌, ◌≤◌, ◌⊎◌, List, [], ◌∷◌, sym, refl, ap, ◌∙◌, subst, ap₂, subst₂, inl, inr, arith}
-use mathlib.Core.Path.{fun_ext}
+use Rattle.std.proofs.Common.{◌≡◌, ℕ, zero, suc, ◌+◌, ◌<◌, ◌≤◌, ◌⊎◌, List, [], ◌∷◌, sym, refl, ◌∙◌, subst, inl, inr, arith}
 use Rattle.std.proofs.lemmas.Bool.{cases_lt}
-use Rattle.search.specs.Least.{Leftmost}
 use Rattle.division.specs.declared.cost.Cost.{Cost}
 use Rattle.division.specs.declared.cost.Cost.TheVariants.{Number, Empty}
 use Rattle.division.specs.declared.table.Table.{Table}
-use Rattle.division.specs.Costs.{before}
 use Rattle.division.specs.Divisions.{Divides, Division, Least, Tally, total}
 use Rattle.division.specs.Fillings.{Light, SameSpans, Filled, FillingsStand, TablesStay}
-use Rattle.division.specs.Rounds.{round_entry, LastCut}
-use Rattle.division.specs.Tables.{tally_at, cut_at, carry, carried_at, Right, Fits, Put}
+use Rattle.division.specs.Rounds.{LastCut}
+use Rattle.division.specs.Tables.{tally_at, cut_at, carried_at, Right}
 use Rattle.division.proofs.Rounds.{rounds_stand}
 use Rattle.division.proofs.Snoc.{divides_le}
 use Rattle.division.proofs.Tables.{carry_tally}
@@ -86,38 +83,3 @@ tables_stay weight other t u rounds m n l same cells right =
       cuts = λ k j v h g e.
           subst (LastCut other k j) (sym (cells (suc k) j h g).1) (last_cut_same weight other m same k j (cut_at t (suc k) j) g (right.cuts k j v h (omega arith) (sym (cells (suc k) j h g).0 ∙ e)));
     }
-
--- a cell is filled by what it holds and what its round works from
-filled_by : (weight : ℕ → ℕ → ℕ) (t : Table) (tallies : ℕ → Cost) (n k j cut : ℕ) → carried_at t k ≡ tallies → cut_at t (suc k) j ≡ cut
-    → Leftmost before (round_entry weight tallies j) 0 n cut
-    → tally_at t (suc k) j ≡ round_entry weight tallies j cut
-    → Filled weight t n k j
-filled_by weight t tallies n k j cut row place least entry =
-    record {
-      least = subst₂ (λ (f : ℕ → Cost) (c : ℕ). Leftmost before (round_entry weight f j) 0 n c) (sym row) (sym place) least;
-      put = entry ∙ ap₂ (λ (f : ℕ → Cost) (c : ℕ). round_entry weight f j c) (sym row) (sym place);
-    }
-
--- what putting one cell leaves
-module _ (weight : ℕ → ℕ → ℕ) (p i cut : ℕ) (cost : Cost) (old new : Table) (did : Put p i cost cut old new) where
-  -- rounds that work from other rows have the same entries
-  pub put_keeps_row : (k : ℕ) → (k ≡ p → ⊥) → carried_at new k ≡ carried_at old k
-  put_keeps_row k differ = fun_ext (λ a. ap carry (did.others k a (λ same. differ same.0)).0)
-
-  pub put_keeps_right : (rounds m : ℕ) → m < i → Right weight old rounds m → Right weight new rounds m
-  put_keeps_right rounds m h =
-      tables_stay weight weight old new rounds m m (omega arith) (λ a b l g. refl) (λ k j l g. did.others k j (λ same. omega (arith, same.1)))
-
-  pub put_keeps_filled : (n k j : ℕ) → k < p → ((suc k ≡ p) × (j ≡ i) → ⊥) → Filled weight old n k j → Filled weight new n k j
-  put_keeps_filled n k j h differ f =
-      let cell = did.others (suc k) j differ in
-      filled_by weight new (carried_at old k) n k j (cut_at old (suc k) j) (put_keeps_row k (λ e. omega arith)) cell.1 f.least (cell.0 ∙ f.put)
-
-  -- putting the leftmost least entry and its column fills a cell
-  pub put_fills : (n k : ℕ) → p ≡ suc k → Fits p i cost cut
-      → Leftmost before (round_entry weight (carried_at old k) i) 0 n cut
-      → cost ≡ round_entry weight (carried_at old k) i cut
-      → Filled weight new n k i
-  put_fills n k next fits least entry =
-      let cell = subst (λ (q : ℕ). (tally_at new q i ≡ cost) × (cut_at new q i ≡ cut)) next (did.here fits) in
-      filled_by weight new (carried_at old k) n k i cut (put_keeps_row k (λ e. omega arith)) cell.1 least (cell.0 ∙ entry)

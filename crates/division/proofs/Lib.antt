@@ -1,4 +1,5 @@
 pub mod Costs
+mod Keys
 pub mod Snoc
 pub mod Cuts
 pub mod Tallies

@@ -13,14 +13,6 @@ written_first (suc m) i j [] h g = absurd (omega arith)
 written_first (suc m) zero j (x ∷ l) h g = refl
 written_first (suc m) (suc i) j (x ∷ l) h g = written_first m i j l (omega arith) (omega arith)
 
-none_behind : (m : ℕ) (l : List ℕ) → drop m (take m l) ≡ []
-none_behind zero l = refl
-none_behind (suc m) [] = refl
-none_behind (suc m) (x ∷ l) = none_behind m l
-
-pub follow_none : (whole : List ℕ) (m : ℕ) (l : List ℕ) → whole ≡ whole ++ drop m (take m l)
-follow_none whole m l = rw (none_behind m l, append-nil)
-
 pub follow_more : (cut : ℕ → ℕ → ℕ) (whole l : List ℕ) (m i j next : ℕ) → 0 < i → i ≤ m → m ≤ length l → next ≡ cut i j → whole ≡ trail cut i j ++ drop i (take m l) → whole ≡ trail cut (i - 1) next ++ drop (i - 1) (take m (set l (i - 1) j))
 follow_more cut whole l m zero j next h g r e w = absurd (omega arith)
 follow_more cut whole l m (suc i) j next h g r e w =

@@ -1,5 +1,5 @@
--- What writing a cell does to a table; fresh tables; and that a round may carry every right tally of at most seven spans.
-use Rattle.std.proofs.Common.{◌≡◌, ℕ, zero, suc, ◌+◌, ◌-◌, ◌*◌, ◌^◌, ◌<◌, ◌≤◌, min, Bool, true, false, cond, ltb, ◌≢◌, length, get_or, set, replicate, sym, refl, ap, ◌∙◌, subst, arith, get_or-set_other, get_or-set_same, ltb-false, ltb-true, le-ltb, lt-ltb}
+-- Fresh tables; and that a round may carry every right tally of at most seven spans.
+use Rattle.std.proofs.Common.{◌≡◌, ℕ, zero, suc, ◌+◌, ◌-◌, ◌*◌, ◌^◌, ◌<◌, ◌≤◌, min, Bool, true, false, cond, ltb, replicate, sym, refl, ap, ◌∙◌, subst, arith, ltb-false, ltb-true, le-ltb}
 use lib.ListN.{get_or-replicate}
 use Rattle.division.specs.declared.cost.Cost.{Cost}
 use Rattle.division.specs.declared.cost.Cost.TheVariants.{Number, Empty}
@@ -8,16 +8,11 @@ use Rattle.division.specs.Costs.{Small}
 use Rattle.division.specs.Divisions.{Tally}
 use Rattle.division.specs.Fillings.{Light}
 use Rattle.division.specs.Rounds.{round_entry}
-use Rattle.division.specs.Tables.{cost_of, if_cell, tally_at, cut_at, carry, carried_at, Carriable, Right, Fresh, Put}
+use Rattle.division.specs.Tables.{cost_of, if_cell, tally_at, carry, carried_at, Carriable, Right, Fresh}
 use Rattle.division.proofs.Rounds.{comes}
 use Rattle.division.proofs.Tallies.{tally_le, too_many, zero_tally}
 
 module _ {X : Type 0} (k j : ℕ) where
-  cell_is : (inside outside : X) → k < 8 → j ≤ 512 → if_cell k j inside outside ≡ inside
-  cell_is inside outside h g =
-      ap (λ (b : Bool). cond b (cond (ltb j 513) inside outside) outside) (lt-ltb k 8 h)
-      ∙ ap (λ (b : Bool). cond b inside outside) (lt-ltb j 513 (omega arith))
-
   cell_same : (inside other outside : X) → (k < 8 → j ≤ 512 → inside ≡ other) → if_cell k j inside outside ≡ if_cell k j other outside
   cell_same inside other outside e = go (ltb k 8) refl (ltb j 513) refl
     where
@@ -33,47 +28,6 @@ module _ {X : Type 0} (k j : ℕ) where
       go true true = refl
       go true false = refl
       go false c = refl
-
-module _ (old : Table) (j held cut i : ℕ) (cost : Cost)
-    (readings : j ≤ 512) (tallies_in : i < length old.tallies) (cuts_in : i < length old.cuts)
-    (holds : cost_of held ≡ cost) (near : cut ≤ 512) where
-  new : Table
-  new = record { tallies = set old.tallies i held; cuts = set old.cuts i cut }
-
-  -- no two cells stand in one place
-  apart : (k p q : ℕ) → i ≡ k * 513 + j → ((suc p ≡ suc k) × (q ≡ j) → ⊥) → q ≤ 512 → p * 513 + q ≢ i
-  apart k p q place differ h = λ e. differ (omega arith, omega arith)
-
-  others : (k : ℕ) → i ≡ k * 513 + j → (p q : ℕ) → ((p ≡ suc k) × (q ≡ j) → ⊥) → (tally_at new p q ≡ tally_at old p q) × (cut_at new p q ≡ cut_at old p q)
-  unfolding new
-  others k place zero q differ = (refl, refl)
-  others k place (suc p) q differ = (
-    cell_same p q _ _ Empty (λ h g. ap cost_of (get_or-set_other old.tallies i (p * 513 + q) held 0 (apart k p q place differ g))),
-    cell_same p q _ _ 0 (λ h g. ap (min 512) (get_or-set_other old.cuts i (p * 513 + q) cut 0 (apart k p q place differ g))),
-  )
-
-  here : (k : ℕ) → k < 8 → i ≡ k * 513 + j → (tally_at new (suc k) j ≡ cost) × (cut_at new (suc k) j ≡ cut)
-  unfolding new
-  here k h place = (
-    cell_is k j _ Empty h readings
-        ∙ ap cost_of (ap (λ (p : ℕ). get_or (set old.tallies i held) p 0) (sym place) ∙ get_or-set_same old.tallies i held 0 tallies_in)
-        ∙ holds,
-    cell_is k j _ 0 h readings
-        ∙ ap (min 512) (ap (λ (p : ℕ). get_or (set old.cuts i cut) p 0) (sym place) ∙ get_or-set_same old.cuts i cut 0 cuts_in)
-        ∙ omega arith,
-  )
-
-  pub put_stands : (k : ℕ) → 0 < k → k ≤ 8 → i ≡ (k - 1) * 513 + j → Small cost
-      → Put k j cost cut old (record { tallies = set old.tallies i held; cuts = set old.cuts i cut })
-  unfolding new
-  put_stands zero some few place small = absurd (omega arith)
-  put_stands (suc k) some few place small =
-      let at : i ≡ k * 513 + j = omega arith in
-      record {
-        here = λ _. here k (omega arith) at;
-        others = others k at;
-        unfit = λ misfit. absurd (misfit (record { some = some; few = few; readings = readings; small = small; near = near }));
-      }
 
 -- what a new table holds
 abbrev pub empty : Table
@@ -103,10 +57,6 @@ carry_tally weight n k j (Number v) light h g l =
     let b = tally_le weight n (2 ^ 59 - 1) light k j v g l in
     ap (λ (b : Bool). cond b Empty (Number v)) (le-ltb (7 * (2 ^ 59 - 1)) v (omega arith))
 carry_tally weight n k j Empty light h g l = refl
-
--- where the table is right, a round works from the tallies themselves
-pub carried_right : (weight : ℕ → ℕ → ℕ) (t : Table) (rounds n k j : ℕ) → Right weight t rounds n → Light weight n → k ≤ rounds → k ≤ 7 → j ≤ n → carried_at t k j ≡ tally_at t k j
-carried_right weight t rounds n k j right light h few g = carry_tally weight n k j (tally_at t k j) light few g (right.tallied k j h g)
 
 -- and nothing greater is carried
 pub carry_carriable : (t : Cost) → Carriable (carry t)

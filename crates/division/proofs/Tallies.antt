@@ -22,7 +22,7 @@ zero_tally weight (suc a) = none_of
     none_of (x ∷ xs) d = omega (arith, d.many)
 
 -- no more spans than readings
-spans_le : (from : ℕ) (ends : List ℕ) (to : ℕ) → Divides from ends to → from + length ends ≤ to
+pub spans_le : (from : ℕ) (ends : List ℕ) (to : ℕ) → Divides from ends to → from + length ends ≤ to
 spans_le from [] to d = omega arith
 spans_le from (e ∷ ends) to d = let h = spans_le e ends to d.1 in omega (arith, d.0)
 

@@ -2,8 +2,9 @@
 ghost use Rattle.std.specs.Prelude.{◌≡◌};
 ghost use Rattle.division.specs.Costs.{before, number_or_zero};
 
-/// A weight from 0 to 2^62 - 1, or empty.
-#[derive(Clone, Copy, PartialEq, Eq, Debug)]
+/// A weight from 0 to 2^62 - 1, or empty. A smaller number stands before a greater one, and any number before empty.
+// `Option<u64>` would order the empty one first.
+#[derive(Clone, Copy, PartialEq, Eq, PartialOrd, Ord, Debug)]
 pub enum Cost {
     Number(u64),
     Empty,
@@ -14,11 +15,7 @@ impl Cost {
     pub fn precedes(self, other: Cost) -> bool
         ensures value { result ≡ before self other }
     {
-        match (self, other) {
-            (Cost::Number(x), Cost::Number(y)) => x < y,
-            (Cost::Number(_), Cost::Empty) => true,
-            (Cost::Empty, _) => false,
-        }
+        self < other
     }
 
     /// The number, or 0 for empty.

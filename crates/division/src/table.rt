@@ -9,9 +9,11 @@ ghost use Rattle.division.specs.Trails.{trail};
 use crate::cost::Cost;
 use refusal::Refusal;
 
-const MOST_SPANS: usize = 8;
+/// A table has this many spans at most.
+pub const MOST_SPANS: usize = 8;
 
-const MOST_READINGS: usize = 512;
+/// A table covers this many readings at most.
+pub const MOST_READINGS: usize = 512;
 
 const ROW: usize = MOST_READINGS + 1;
 
@@ -30,6 +32,7 @@ pub struct Told {
 
 /// Eight rows of 513 tallies and eight of last cuts: a cell for each number of spans from 1 to 8
 /// and of readings from 0 to 512.
+// One flat array for each: fixed memory, and the cell of a place is one multiplication away.
 #[derive(Drop)]
 pub struct Table {
     tallies: [u64; 4104],
@@ -90,10 +93,7 @@ impl Table {
         if k == 0 && j == 0 {
             return Cost::Number(0);
         }
-        match cell(k, j) {
-            Some(i) => read(self.tallies[i]),
-            None => Cost::Empty,
-        }
+        cell(k, j).map_or(Cost::Empty, |i| read(self.tallies[i]))
     }
 
     /// The tally as the round of k + 1 spans takes it: empty above what seven spans weigh at most.
@@ -111,27 +111,19 @@ impl Table {
     fn cut(&self, k: usize, j: usize) -> usize
         ensures value { result ≡ cut_at self.now k j }
     {
-        match cell(k, j) {
-            Some(i) => (self.cuts[i] as usize).min(MOST_READINGS),
-            None => 0,
-        }
+        cell(k, j).map_or(0, |i| usize::from(self.cuts[i]).min(MOST_READINGS))
     }
 
     /// Puts a tally and its last cut into the cell of k spans and j readings, if there is such a cell and they fit it.
     pub fn put(&mut self, k: usize, j: usize, cost: Cost, cut: usize)
         ensures after { Put k j cost cut self.old self.new }
     {
-        let Some(i) = cell(k, j) else {
-            return;
-        };
-        let Some(held) = written(cost) else {
-            return;
-        };
-        if cut > MOST_READINGS {
-            return;
+        if let (Some(i), Some(held)) = (cell(k, j), written(cost))
+            && cut <= MOST_READINGS
+        {
+            self.tallies[i] = held;
+            self.cuts[i] = cut as u16;
         }
-        self.tallies[i] = held;
-        self.cuts[i] = cut as u16;
     }
 
     // Of 1 to k spans the fewest with the least tally of n readings.
@@ -139,13 +131,7 @@ impl Table {
         requires { (0 < k) × (k ≤ 8) }
         ensures value { Fewest self.now n k result }
     {
-        let mut best = 1;
-        for s in 2..k + 1 {
-            if self.tally(s, n).precedes(self.tally(best, n)) {
-                best = s;
-            }
-        }
-        best
+        (1..=k).min_by_key(|&s| (self.tally(s, n), s)).unwrap_or(1)
     }
 
     // Writes the ends of s spans of n readings from the back, as the last cuts have them.
@@ -155,11 +141,9 @@ impl Table {
         ensures rest { drop s ends.new ≡ drop s ends.old }
     {
         let mut j = n;
-        let mut i = s;
-        while i > 0 {
-            ends[i - 1] = j;
-            j = self.cut(i, j);
-            i -= 1;
+        for i in (0..s).rev() {
+            ends[i] = j;
+            j = self.cut(i + 1, j);
         }
     }
 

@@ -1,6 +1,7 @@
 //! What a fit takes at its edges: the greatest reading and the first too great, the last reading that it has room for and the next.
 #![tactic(auto)]
 
+use division::table::{MOST_READINGS, MOST_SPANS};
 use fit::fit::Fit;
 use refusal::Refusal;
 use rising::ceiling::Ceiling;
@@ -9,19 +10,11 @@ use weighing::weighing::Weighing;
 
 const GREATEST_READING: u32 = 65_535;
 
-const MOST_READINGS: usize = 512;
-
-const MOST_SPANS: usize = 8;
-
 /// Says how a take was answered.
 fn say(rt: &HostRuntime, answer: Result<usize, Refusal>) -> io::Result<()> {
     match answer {
         Ok(held) => println!(rt; "taken, and {held} held"),
-        Err(why) => {
-            let number = why.number();
-            let meaning = why.meaning();
-            println!(rt; "refused {number}, {meaning}")
-        }
+        Err(why) => println!(rt; "refused {}, {why}", why.number()),
     }
 }
 

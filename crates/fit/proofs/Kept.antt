@@ -1,6 +1,7 @@
 -- What was read of a round is kept in the table's row of one span more, and the rounds together fill it.
-use Rattle.std.proofs.Common.{◌≡◌, ℕ, suc, ◌+◌, ◌-◌, ◌*◌, ◌^◌, ◌<◌, ◌≤◌, cond, ltb, List, get_or, sym, refl, ap, ◌∙◌, subst, ⊎_elim, add-mul, one-mul, arith}
+use Rattle.std.proofs.Common.{◌≡◌, ℕ, suc, ◌+◌, ◌-◌, ◌*◌, ◌^◌, ◌<◌, ◌≤◌, cond, ltb, List, length, get_or, take, sym, refl, ap, ◌∙◌, subst, ⊎_elim, add-mul, one-mul, length-take-le, get_or-take, arith}
 use Rattle.std.proofs.lemmas.Bool.{cond-false, le-ltb, cases_lt}
+use Rattle.counter.specs.declared.Counter.{Counter}
 use Rattle.search.specs.Reading.{Reads}
 use Rattle.search.specs.Least.{Leftmost}
 use Rattle.search.proofs.Least.{leftmost_same}
@@ -26,12 +27,6 @@ small_entry weight t k j a light = ⊎_elim
     (cases_lt a j)
 
 module _ {W : Type 0} (m : Ghosts W) where
-  pub weighed_none : (v : W) → Weighed m v v 0
-  weighed_none v = record {
-    same = record { held_same = refl; weights_same = λ a b l h. refl; levels_same = λ a b l h. refl; verdicts_same = λ r l. refl; top_same = refl; count_risen = omega arith };
-    few = omega arith;
-  }
-
   pub weighed_more : {u v w : W} {a b : ℕ} (c : ℕ) → a + b ≤ c → Weighed m u v a → Weighed m v w b → Weighed m u w c
   weighed_more c le p q =
       let x = p.same in
@@ -84,15 +79,6 @@ module _ {W : Type 0} (m : Ghosts W) where
       let carried : carried_at t.table t.round a ≡ carried_at s.table s.round a = ap (λ k. carry (tally_at t.table k a)) round ∙ ap carry (tallies a) in
       weights ∙ ap (λ c. cond (ltb a (row + 1)) (plus c (m.weight s.weighing a (row + 1))) Empty) carried
 
-  pub kept_none : (s : Rounds W) (mark : ℕ) (columns : List ℕ) → KeptAll m s s mark 0 columns
-  kept_none s mark columns = record {
-    weighed = weighed_none s.weighing;
-    round_same = refl;
-    tallies = λ i l. absurd (omega arith);
-    cuts = λ i l. absurd (omega arith);
-    others = λ k j h. (refl, refl);
-  }
-
   pub kept_more : {s t u : Rounds W} {mark many : ℕ} {columns : List ℕ} → mark + many < m.held s.weighing → KeptAll m s t mark many columns → KeptOne m t u (mark + many) (get_or columns many 0) → KeptAll m s u mark (many + 1) columns
   kept_more {s} {t} {u} {mark} {many} {columns} inside all one =
       let round = all.round_same in
@@ -118,16 +104,30 @@ module _ {W : Type 0} (m : Ghosts W) where
             (a.0 ∙ b.0, a.1 ∙ b.1);
       }
 
+  -- what is kept of the first places of a list
+  pub kept_front : {s t : Rounds W} {mark many : ℕ} (columns : List ℕ) → many ≤ length columns → KeptAll m s t mark (length (take many columns)) (take many columns) → KeptAll m s t mark many columns
+  kept_front {s} {t} {mark} {many} columns le kept =
+      let all = rw (length-take-le many columns le) at kept in
+      record {
+        weighed = all.weighed;
+        round_same = all.round_same;
+        tallies = λ i l. rw (get_or-take many columns i 0 l) at (all.tallies i l);
+        cuts = λ i l. all.cuts i l ∙ get_or-take many columns i 0 l;
+        others = all.others;
+      }
+
   -- the state in which round k begins
-  abbrev pub begun : Rounds W → ℕ → Rounds W
-  begun s k = record { weighing = s.weighing; table = s.table; round = k; ledger = 0 }
+  abbrev pub begun : Rounds W → Counter → ℕ → Rounds W
+  begun s ledger k = record { weighing = s.weighing; table = s.table; round = k; ledger = ledger }
 
   -- what the search left as t and the keeping as u of round k over n readings
   pub record Ran (s t u : Rounds W) (k mark n told : ℕ) (answers answers' work work' : List ℕ) : Type 0 where
-    pub found : (i : ℕ) → i < n - mark → Leftmost before (entry_of m (begun s k) (mark + i)) 0 n (get_or answers' i 0)
+    pub ledger : Counter
+    pub unread : ledger.told ≡ 0
+    pub found : (i : ℕ) → i < n - mark → Leftmost before (entry_of m (begun s ledger k) (mark + i)) 0 n (get_or answers' i 0)
     pub few : told ≤ 4 * n + 12 * (n - mark)
-    pub risen : ledger_of t ≡ 0 + told
-    pub passed : Passing m (begun s k) t
+    pub risen : ledger_of t ≡ ledger.told + told
+    pub passed : Passing m (begun s ledger k) t
     pub kept : KeptAll m t u mark (n - mark) answers'
     pub answers_kept : KeptFrom (n - mark) answers answers'
     pub work_kept : KeptFrom (4 * (n - mark)) work work'
@@ -151,7 +151,7 @@ module _ {W : Type 0} (m : Ghosts W) where
         let weight : ℕ → ℕ → ℕ = m.weight s.weighing in
         let round : suc t.round ≡ suc k = ap suc ran.passed.round_same in
         let cut : cut_at u.table (suc k) (mark + i + 1) ≡ get_or answers' i 0 = subst (λ x. cut_at u.table x (mark + i + 1) ≡ get_or answers' i 0) round (ran.kept.cuts i l) in
-        let entry = entry_stands (record { weighing = s.weighing; table = s.table; round = k; ledger = 0 }) t (mark + i) (get_or answers' i 0) ran.passed.weighing_same ran.passed.round_same (λ j. ap (λ x. tally_at x k j) ran.passed.table_same) (omega arith) in
+        let entry = entry_stands (begun s ran.ledger k) t (mark + i) (get_or answers' i 0) ran.passed.weighing_same ran.passed.round_same (λ j. ap (λ x. tally_at x k j) ran.passed.table_same) (omega arith) in
         let tally : tally_at u.table (suc k) (mark + i + 1) ≡ round_entry weight (carried_at s.table k) (mark + i + 1) (get_or answers' i 0) = subst (λ x. tally_at u.table x (mark + i + 1) ≡ entry_of m t (mark + i) (get_or answers' i 0)) round (ran.kept.tallies i l) ∙ entry in
         record {
           least = subst (λ c. Leftmost before (round_entry weight (carried_at u.table k) (mark + i + 1)) 0 (m.held s.weighing) c) (sym cut) (leftmost_same (λ a x y. entry_from (mark + i + 1) a) (ran.found i l));
@@ -159,7 +159,7 @@ module _ {W : Type 0} (m : Ghosts W) where
         }
 
     pub round_done : mark < m.held s.weighing → m.held s.weighing ≤ 512 → RoundDone m s u k mark answers answers' work work'
-    round_done some most = let few = ran.few in record {
+    round_done some most = let few = ran.few in let none = ran.unread in record {
       weighed = weighed_more (4 * m.held s.weighing + 13 * (m.held s.weighing - mark)) (omega arith) (passing_weighed told ran.passed ran.risen (omega arith)) ran.kept.weighed;
       filled = λ j a b. let e : mark + (j - mark - 1) + 1 ≡ j = omega arith in subst (λ x. Filled (m.weight s.weighing) u.table (m.held s.weighing) k x) e (row_filled (j - mark - 1) (omega arith));
       others = others_same;
@@ -178,15 +178,6 @@ filled_stays weight other t u n k j weights tallies cell f =
     }
 
 module _ {W : Type 0} (m : Ghosts W) where
-  pub rounds_none : (s : Rounds W) (mark : ℕ) (answers work : List ℕ) → RoundsDone m s s 0 mark answers answers work work
-  rounds_none s mark answers work = record {
-    weighed = weighed_more m (0 * (4 * m.held s.weighing + 13 * (m.held s.weighing - mark))) (omega arith) (weighed_none m s.weighing) (weighed_none m s.weighing);
-    filled = λ k j a. absurd (omega arith);
-    settled_kept = λ k j l. (refl, refl);
-    answers_kept = λ i l. refl;
-    work_kept = λ i l. refl;
-  }
-
   pub rounds_more : {s t u : Rounds W} {k mark : ℕ} {answers answers' answers'' work work' work'' : List ℕ} → RoundsDone m s t k mark answers answers' work work' → RoundDone m t u k mark answers' answers'' work' work'' → RoundsDone m s u (k + 1) mark answers answers'' work work''
   rounds_more {s} {t} {u} {k} {mark} done one =
       let same = done.weighed.same in

@@ -22,12 +22,10 @@ module _ {W : Type 0} (m : Ghosts W) where
   shift_sound {f} {f'} {n} leaves table limit mark sound =
       let holds = leaves.holds in
       let marked = sound.marked in
-      let eight = sound.limited in
       let low : min f.mark n ≤ f.mark = omega arith in
       let kept = tables_stay (m.weight (weighing_of f)) (m.weight (weighing_of f')) (table_of f) (table_of f') f.limit (min f.mark n) f.mark low (λ a b l h. sym (leaves.weights_same a b l (omega arith) (omega arith))) (λ k j a b. (ap (λ t. tally_at t k j) table, ap (λ t. cut_at t k j) table)) sound.right in
       record {
         marked = omega arith;
-        limited = omega arith;
         right = subst (λ x. Right (m.weight (weighing_of f')) (table_of f') x f'.mark) (sym limit) (subst (λ x. Right (m.weight (weighing_of f')) (table_of f') f.limit x) (sym mark) kept);
       }
 
@@ -35,23 +33,20 @@ module _ {W : Type 0} (m : Ghosts W) where
   shifts leaves levels table limit mark = record { mark_is = mark; limit_same = limit; levels = levels; sound = shift_sound leaves table limit mark }
 
   -- the rounds filled the cells of the unsettled readings, so all tallies are right
-  settle_sound : {f f' : Fit W} {answers answers' work work' : List ℕ} → ((w : W) (a b : ℕ) → a < b → b ≤ m.held w → m.weight w a b ≤ 2 ^ 59 - 1) → RoundsDone m f.rounds f'.rounds (min 8 f.limit) f.mark answers answers' work work' → f'.limit ≡ f.limit → f'.mark ≡ size m f → f.mark ≤ size m f → Sound m f → Sound m f'
+  settle_sound : {f f' : Fit W} {answers answers' work work' : List ℕ} → ((w : W) (a b : ℕ) → a < b → b ≤ m.held w → m.weight w a b ≤ 2 ^ 59 - 1) → RoundsDone m f.rounds f'.rounds f.limit f.mark answers answers' work work' → f'.limit ≡ f.limit → f'.mark ≡ size m f → f.mark ≤ size m f → Sound m f → Sound m f'
   settle_sound {f} {f'} light done limit mark below sound =
       let same = done.weighed.same in
       let hold = same.held_same in
-      let eight = sound.limited in
-      let all : min 8 f.limit ≡ f.limit = omega arith in
       let weight : ℕ → ℕ → ℕ = m.weight (weighing_of f) in
       let old = tables_stay weight weight (table_of f) (table_of f') f.limit f.mark f.mark (omega arith) (λ a b l h. refl) (λ k j a b. done.settled_kept k j b) sound.right in
-      let new = fillings_stand weight (table_of f') f.limit f.mark (size m f) eight (light (weighing_of f)) old (λ k j a. done.filled k j (omega arith)) in
+      let new = fillings_stand weight (table_of f') f.limit f.mark (size m f) f.limited.1 (light (weighing_of f)) old (λ k j a. done.filled k j (omega arith)) in
       let there = tables_stay weight (m.weight (weighing_of f')) (table_of f') (table_of f') f.limit (size m f) (size m f) (omega arith) (λ a b l h. sym (same.weights_same a b l h)) (λ k j a b. (refl, refl)) new in
       record {
         marked = omega arith;
-        limited = omega arith;
         right = subst (λ x. Right (m.weight (weighing_of f')) (table_of f') x f'.mark) (sym limit) (subst (λ x. Right (m.weight (weighing_of f')) (table_of f') f.limit x) (sym mark) there);
       }
 
-  pub settled_all : {f f' : Fit W} {told : ℕ} {answers answers' work work' : List ℕ} → ((w : W) (a b : ℕ) → a < b → b ≤ m.held w → m.weight w a b ≤ 2 ^ 59 - 1) → RoundsDone m f.rounds f'.rounds (min 8 f.limit) f.mark answers answers' work work' → f'.limit ≡ f.limit → f'.mark ≡ size m f → f.mark < size m f → told ≡ m.count (weighing_of f') - m.count (weighing_of f) → Settled m f f' answers answers' work work' told
+  pub settled_all : {f f' : Fit W} {told : ℕ} {answers answers' work work' : List ℕ} → ((w : W) (a b : ℕ) → a < b → b ≤ m.held w → m.weight w a b ≤ 2 ^ 59 - 1) → RoundsDone m f.rounds f'.rounds f.limit f.mark answers answers' work work' → f'.limit ≡ f.limit → f'.mark ≡ size m f → f.mark < size m f → told ≡ m.count (weighing_of f') - m.count (weighing_of f) → Settled m f f' answers answers' work work' told
   settled_all light done limit mark some told =
       let risen = done.weighed.same.count_risen in
       let few = done.weighed.few in
@@ -83,7 +78,7 @@ module _ {W : Type 0} (m : Ghosts W) where
   divided f k ends ends' (Ok told) some most all allowed table best =
       (all, allowed, table, λ sound. best (m.weight (weighing_of f)) f.limit (right_for_all all sound) allowed.few)
   divided f k ends ends' (Err why) some most all allowed table best =
-      let spans : Spans _ = record { some = allowed.some; few = allowed.eight } in
+      let spans : Spans _ = record { some = allowed.some; few = let few = allowed.few in let most = f.limited.1 in omega arith } in
       let short = only_room why some most spans table.0 in (
         inr (some, inr (all, inr (allowed, inl short))),
         table.1,

@@ -22,7 +22,6 @@ limit_of k = min 8 (max 1 k)
 pub record Allowed (limit k : ℕ) : Type 0 where
   pub some : 0 < k
   pub few : k ≤ limit
-  pub eight : k ≤ 8
 
 -- there is a place for each unsettled reading, and four places of work
 pub record Long (unsettled : ℕ) (answers work : List ℕ) : Type 0 where
@@ -52,11 +51,10 @@ module _ {W : Type 0} (m : Ghosts W) where
   abbrev pub unsettled : Fit W → ℕ
   unsettled f = size f - f.mark
 
-  -- The tallies and last cuts of the settled readings are right. This is no invariant of the type: each call promises that it
-  -- keeps it.
+  -- The tallies and last cuts of the settled readings are right. This is no invariant of the type, which does not know what its
+  -- weighing means: each call promises that it keeps it.
   pub record Sound (f : Fit W) : Type 0 where
     pub marked : f.mark ≤ size f
-    pub limited : f.limit ≤ 8
     pub right : Right (m.weight (weighing_of f)) (table_of f) f.limit f.mark
 
   -- a fit as it is opened: it owns the weighing, and nothing is settled
@@ -91,7 +89,7 @@ module _ {W : Type 0} (m : Ghosts W) where
     pub limit_same : f'.limit ≡ f.limit
     pub weighing_same : SameWeighing m (weighing_of f) (weighing_of f')
     pub counted : m.count (weighing_of f') ≡ m.count (weighing_of f) + told
-    pub few : told ≤ min 8 f.limit * (4 * size f + 13 * unsettled f)
+    pub few : told ≤ f.limit * (4 * size f + 13 * unsettled f)
     pub idle : unsettled f ≡ 0 → told ≡ 0
     pub answers_kept : KeptFrom (unsettled f) answers answers'
     pub work_kept : KeptFrom (4 * unsettled f) work work'

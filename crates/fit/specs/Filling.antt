@@ -1,5 +1,5 @@
 -- What the rounds of a settle leave: the cells of the unsettled readings filled, and how often was weighed.
-use Rattle.std.specs.Prelude.{◌≡◌, ℕ, suc, ◌+◌, ◌-◌, ◌*◌, ◌<◌, ◌≤◌, List, slice_index}
+use Rattle.std.specs.Prelude.{◌≡◌, ℕ, suc, ◌+◌, ◌-◌, ◌*◌, ◌<◌, ◌≤◌, List, length, slice_index}
 use Rattle.weighing.specs.declared.weighing.Weighing.{Ghosts}
 use Rattle.division.specs.declared.table.Table.{Table}
 use Rattle.division.specs.Fillings.{Filled}
@@ -11,6 +11,12 @@ use Rattle.fit.specs.Rounds.{SameWeighing, entry_of, ledger_of}
 pub record Weighed {W : Type 0} (m : Ghosts W) (v w : W) (most : ℕ) : Type 0 where
   pub same : SameWeighing m v w
   pub few : m.count w ≤ m.count v + most
+
+-- some readings from `mark` on are held, and the lists have a place for each of them and four places of work
+pub record Ahead {W : Type 0} (m : Ghosts W) (s : Rounds W) (mark : ℕ) (answers work : List ℕ) : Type 0 where
+  pub some : mark < m.held s.weighing
+  pub long : m.held s.weighing - mark ≤ length answers
+  pub room : 4 * (m.held s.weighing - mark) ≤ length work
 
 -- a cell of the table holds what it held
 abbrev pub SameCell : Table → Table → ℕ → ℕ → Type 0

@@ -1,5 +1,5 @@
 -- The meaning of the round sheet, and what reading it leaves.
-use Rattle.std.specs.Prelude.{◌≡◌, ℕ, ◌+◌, ◌-◌, ◌^◌, ◌<◌, ◌≤◌, min}
+use Rattle.std.specs.Prelude.{◌≡◌, ℕ, ◌+◌, ◌-◌, ◌^◌, ◌<◌, ◌≤◌}
 use Rattle.weighing.specs.declared.weighing.Weighing.{Ghosts}
 use Rattle.division.specs.declared.cost.Cost.{Cost}
 use Rattle.division.specs.Rounds.{round_entry}
@@ -12,7 +12,7 @@ entry_of m s i a = round_entry (m.weight s.weighing) (carried_at s.table s.round
 
 -- how many entries were read, up to 2^63 - 1
 abbrev pub ledger_of : {W : Type 0} → Rounds W → ℕ
-ledger_of s = min s.ledger (2 ^ 63 - 1)
+ledger_of s = s.ledger.told
 
 -- the weighing means what it meant, but for the count
 pub record SameWeighing {W : Type 0} (m : Ghosts W) (v w : W) : Type 0 where

@@ -1,9 +1,10 @@
 //! The rounds of a settle: each is a row search over the unsettled rows, whose answers become tallies and last cuts.
 ghost use Rattle.std.specs.Prelude.{◌≡◌, ℕ, ◌+◌, ◌-◌, ◌*◌, ◌^◌, ◌<◌, ◌≤◌, length, slice_index};
 ghost use Rattle.fit.specs.Rounds.{ledger_of};
-ghost use Rattle.fit.specs.Filling.{KeptOne, KeptAll, RoundDone, RoundsDone};
+ghost use Rattle.fit.specs.Filling.{Ahead, KeptOne, KeptAll, RoundDone, RoundsDone};
 
 use crate::rounds::Rounds;
+use counter::Counter;
 use search::search;
 use search::sheet::Sheet;
 use search::strip::Strip;
@@ -18,47 +19,45 @@ impl<W: Weighing> Rounds<W> {
         requires ledger { ledger_of self.old + 1 < 2 ^ 63 - 1 }
         ensures after { KeptOne W.Weighing self.old self.new row column }
     {
-        match self.entry(row, column) {
-            Ok(cost) => self.table.put(self.round + 1, row + 1, cost, column),
-            Err(_) => unreachable(),
-        }
+        let Ok(cost) = self.entry(row, column) else {
+            unreachable()
+        };
+        self.table.put(self.round + 1, row + 1, cost, column);
     }
 
-    // Keeps what a search found for `many` rows from `mark` on, a column for each.
-    fn keep_all(&mut self, mark: usize, many: usize, columns: &[usize])
-        requires rows { mark + many ≤ W.held self.old.weighing }
-        requires long { many ≤ length columns.now }
-        requires found { (i : ℕ) → i < many → slice_index columns.now i < W.held self.old.weighing }
+    // Keeps what a search found for the rows from `mark` on, a column for each.
+    fn keep_all(&mut self, mark: usize, columns: &[usize])
+        requires rows { mark + length columns.now ≤ W.held self.old.weighing }
+        requires found { (i : ℕ) → i < length columns.now → slice_index columns.now i < W.held self.old.weighing }
         requires round { self.old.round < 8 }
-        requires ledger { ledger_of self.old + many < 2 ^ 63 - 1 }
-        ensures after { KeptAll W.Weighing self.old self.new mark many columns.now }
+        requires ledger { ledger_of self.old + length columns.now < 2 ^ 63 - 1 }
+        ensures after { KeptAll W.Weighing self.old self.new mark (length columns.now) columns.now }
     {
-        for i in 0..many {
-            self.keep(mark + i, columns[i]);
+        for (i, &column) in columns.iter().enumerate() {
+            self.keep(mark + i, column);
         }
     }
 
     // One round over the readings from `mark` on.
+    // Two lists and no struct that lends both: each contract would have to add that either field is still the caller's list.
     fn run(&mut self, round: usize, mark: usize, answers: &mut [usize], work: &mut [usize])
         requires round { round < 8 }
-        requires some { mark < W.held self.old.weighing }
-        requires long { W.held self.old.weighing - mark ≤ length answers.old }
-        requires room { 4 * (W.held self.old.weighing - mark) ≤ length work.old }
+        requires ahead { Ahead W.Weighing self.old mark answers.old work.old }
         ensures after { RoundDone W.Weighing self.old self.new round mark answers.old answers.new work.old work.new }
     {
         let n = self.weighing.held();
         self.round = round;
-        self.ledger = 0;
+        self.ledger = Counter::new();
         let strip = Strip {
             row: mark,
             rows: n - mark,
             column: 0,
             columns: n,
         };
-        match search(self, strip, answers, work) {
-            Ok(_) => self.keep_all(mark, n - mark, answers),
-            Err(_) => unreachable(),
-        }
+        let Ok(_) = search(self, strip, answers, work) else {
+            unreachable()
+        };
+        self.keep_all(mark, &answers[..n - mark]);
     }
 
     // All rounds up to `limit` spans.
@@ -70,9 +69,7 @@ impl<W: Weighing> Rounds<W> {
         work: &mut [usize],
     )
         requires limit { limit ≤ 8 }
-        requires some { mark < W.held self.old.weighing }
-        requires long { W.held self.old.weighing - mark ≤ length answers.old }
-        requires room { 4 * (W.held self.old.weighing - mark) ≤ length work.old }
+        requires ahead { Ahead W.Weighing self.old mark answers.old work.old }
         ensures after { RoundsDone W.Weighing self.old self.new limit mark answers.old answers.new work.old work.new }
     {
         for round in 0..limit {

@@ -7,13 +7,12 @@ ghost use Rattle.division.proofs.Costs;
 ghost use Rattle.division.proofs.Rounds.{rounds_lawful};
 ghost use Rattle.fit.specs.Rounds.{entry_of, ledger_of, Passing};
 
+use counter::Counter;
 use division::cost::Cost;
 use division::table::Table;
 use refusal::Refusal;
 use search::sheet::Sheet;
 use weighing::weighing::Weighing;
-
-const LEDGER_TOP: u64 = (1 << 63) - 1;
 
 /// The weighing, the table of tallies and the number of the round, counted from 0: round k makes the
 /// tallies of k + 1 spans from those of k. It is itself the sheet of that round, of n rows and n columns.
@@ -24,7 +23,7 @@ pub struct Rounds<W> {
     pub weighing: W,
     pub table: Table,
     pub round: usize,
-    pub ledger: u64,
+    pub ledger: Counter,
 }
 
 impl<W: Weighing> Sheet for Rounds<W> {
@@ -62,7 +61,7 @@ impl<W: Weighing> Sheet for Rounds<W> {
     ghost monotone = { λ s i j a b ij jn ab bn won. rounds_lawful (W.Weighing.weight s.weighing) (carried_at s.table s.round) (W.Weighing.held s.weighing) _ _ a b (W.Weighing.quadrangle s.weighing) (omega arith) (omega arith) ab won };
 
     fn precedes(a: &Cost, b: &Cost) -> bool {
-        a.precedes(*b)
+        a < b
     }
 
     fn rows(&self) -> usize {
@@ -74,7 +73,7 @@ impl<W: Weighing> Sheet for Rounds<W> {
     }
 
     fn ledger(&self) -> u64 {
-        self.ledger.min(LEDGER_TOP)
+        self.ledger.told()
     }
 
     fn entry(&mut self, row: usize, column: usize) -> Result<Cost, Refusal> {
@@ -82,16 +81,14 @@ impl<W: Weighing> Sheet for Rounds<W> {
         if row >= n || column >= n {
             return Err(Refusal::NoSuchPlace);
         }
-        self.ledger = self.ledger.min(LEDGER_TOP - 1) + 1;
+        self.ledger.raise();
         if column > row {
             return Ok(Cost::Empty);
         }
-        match self.table.carried(self.round, column) {
-            Cost::Empty => Ok(Cost::Empty),
-            Cost::Number(tally) => match self.weighing.weigh(column, row + 1) {
-                Ok(weight) => Ok(Cost::Number(tally + weight)),
-                Err(_) => unreachable(),
-            },
-        }
+        let Cost::Number(tally) = self.table.carried(self.round, column) else {
+            return Ok(Cost::Empty);
+        };
+        let weight = self.weighing.weigh(column, row + 1)?;
+        Ok(Cost::Number(tally + weight))
     }
 }

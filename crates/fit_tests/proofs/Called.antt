@@ -1,40 +1,28 @@
 -- The caller's promise from the law over runs: its run of three calls is one of those that the law speaks of.
-use Rattle.std.proofs.Common.{◌≡◌, ℕ, zero, suc, ◌+◌, ◌-◌, ◌<◌, ◌≤◌, Bool, true, false, ◌⊎◌, List, [], ◌∷◌, map, length, replicate, Ok, Err, Result, refl, ap, subst, inl, inr, arith}
+use Rattle.std.proofs.Common.{◌≡◌, ℕ, zero, suc, ◌+◌, ◌-◌, ◌<◌, ◌≤◌, Bool, true, false, ◌⊎◌, List, [], ◌∷◌, map, length, replicate, Ok, Err, Result, refl, ap, ◌∙◌, subst, inl, inr, arith}
+use Rattle.std.proofs.lemmas.List.{length-map, length-replicate}
 use Rattle.refusal.specs.declared.Refusal.{Refusal}
 use Rattle.refusal.specs.Rules.{Broken, NoOther}
 use Rattle.weighing.specs.declared.weighing.Weighing.{Ghosts}
 use Rattle.weighing.specs.Did as weighing
 use Rattle.division.specs.Divide.{Answered, BestFits}
-use Rattle.division.specs.Divisions.{Divides}
+use Rattle.division.proofs.Tallies.{spans_le}
 use Rattle.fit.specs.declared.fit.Fit.{Fit}
 use Rattle.runs.specs.declared.step.Call.TheVariants.{Take, Settle, Divide}
 use Rattle.runs.specs.declared.step.Answer.{Answer}
 use Rattle.runs.specs.declared.step.Answer.TheVariants.{Held, Settled, Divided, Weight}
-use Rattle.fit.specs.Calls.{Opens, TakeDid, SettleDid, Long, weighing_of, limit_of}
+use Rattle.fit.specs.Calls.{Opens, TakeDid, SettleDid, Allowed, Long, weighing_of, limit_of}
 use Rattle.fit.specs.Rounds.{SameWeighing}
-use Rattle.runs.specs.Runs.{ByHeld, BySettled, ByDivided, Lists, Did, Event, Reached, opened, called, settled, Asked, SettleMeets, DivideMeets, Law}
+use Rattle.runs.specs.Runs.{ByHeld, BySettled, ByDivided, Lists, Did, Event, Reached, opened, called, settled, SettleMeets, DivideMeets, Law}
 use Rattle.fit_tests.specs.Caller.{CutDid}
-
-brought_many : (n : ℕ) → length (replicate n false) ≡ n
-brought_many zero = refl
-brought_many (suc n) = ap suc (brought_many n)
 
 brought_unsettled : (n : ℕ) → settled (replicate n false) ≡ 0
 brought_unsettled zero = refl
 brought_unsettled (suc n) = brought_unsettled n
 
-settled_many : (n : ℕ) → length (map (λ (r : Bool). true) (replicate n false)) ≡ n
-settled_many zero = refl
-settled_many (suc n) = ap suc (settled_many n)
-
 all_settled : (rs : List Bool) → settled (map (λ (r : Bool). true) rs) ≡ length (map (λ (r : Bool). true) rs)
 all_settled [] = refl
 all_settled (r ∷ rs) = let h = all_settled rs in omega arith
-
--- each span of a division has a reading
-spans_few : (from to : ℕ) (ends : List ℕ) → Divides from ends to → from + length ends ≤ to
-spans_few from to [] d = omega arith
-spans_few from to (e ∷ ends) d = let h = spans_few e to ends d.1 in let l = d.0 in omega arith
 
 -- the only rule may stand before others
 first_rule : {A Number Later : Type 0} → ((A → ⊥) × Number) ⊎ (A × ⊥) → ((A → ⊥) × Number) ⊎ (A × Later)
@@ -54,10 +42,6 @@ told_settled P (Divided t) p = absurd p
 told_settled P (Weight v) p = absurd p
 
 module _ {W : Type 0} (m : Ghosts W) (w : W) (reading limit k : ℕ) (f0 f1 : Fit W) (l0 l1 : Lists) (o : Opens m w limit f0) where
-  pub take_refused : (ends' : List ℕ) (why : Refusal) → Law m f0 f1 (Take reading) l0 (Err why) l1 → CutDid m w reading limit k l0.ends l0.work ends' (Err why)
-  take_refused ends' why law =
-      first_rule (subst (λ v. Broken (m.verdict v reading ≡ 0) (m.verdict v reading) NoOther why) o.owns (law w limit [] (opened o)).0)
-
   -- the reading is taken
   module _ (a : Answer) (taken : Did m f0 (Take reading) l0 (Ok a) f1 l1) (f2 : Fit W) (l2 : Lists) where
     abbrev rs : List Bool
@@ -76,15 +60,7 @@ module _ {W : Type 0} (m : Ghosts W) (w : W) (reading limit k : ℕ) (f0 f1 : Fi
     reached_one = called take_event (opened o) taken
 
     many_unsettled : length rs - settled rs ≡ m.held w + 1
-    many_unsettled = let a = brought_many (m.held w) in let b = brought_unsettled (m.held w) in omega arith
-
-    settle_short : (why : Refusal) → Broken (0 < length rs) 5 (Broken (Long (length rs - settled rs) l1.ends l1.work) 9 NoOther) why
-        → Broken (Long (m.held w + 1) l0.ends l0.work) 9 (Broken (Asked (limit_of limit) k) 6 NoOther) why
-    settle_short why (inl b) = absurd (b.0 (omega arith))
-    settle_short why (inr b) = first_rule (subst (λ l. Broken (Long (m.held w + 1) l.ends l.work) 9 NoOther why) taken.1 (subst (λ n. Broken (Long n l1.ends l1.work) 9 NoOther why) many_unsettled b.1))
-
-    pub settle_refused : (ends' : List ℕ) (why : Refusal) → Law m f1 f2 Settle l1 (Err why) l2 → CutDid m w reading limit k l0.ends l0.work ends' (Err why)
-    settle_refused ends' why law = inr (took.0, settle_short why (law w limit _ reached_one).0)
+    many_unsettled = let a = length-replicate (m.held w) false in let b = brought_unsettled (m.held w) in omega arith
 
     -- and all are settled
     module _ (b : Answer) (settles : Did m f1 Settle l1 (Ok b) f2 l2) (law-settle : Law m f1 f2 Settle l1 (Ok b) l2) (f3 : Fit W) (l3 : Lists) (as_long : length l2.ends ≡ length l1.ends) where
@@ -104,13 +80,13 @@ module _ {W : Type 0} (m : Ghosts W) (w : W) (reading limit k : ℕ) (f0 f1 : Fi
       settle_long = subst (λ n. Long n l1.ends l1.work) many_unsettled (told_settled (SettleMeets m (weighing_of f1) (weighing_of f2) (limit_of limit) rs l1 l2) b (law-settle w limit _ reached_one)).1.1
 
       many : length all ≡ m.held w + 1
-      many = let h = settled_many (m.held w) in omega arith
+      many = length-map rs (λ (r : Bool). true) ∙ ap suc (length-replicate (m.held w) false) ∙ omega arith
 
       fits : BestFits (m.weight (weighing_of f2)) (length all) k (length l2.ends)
-      fits ends best = let h = spans_few 0 (length all) ends best.divides in let n = many in let l = settle_long.for_answers in omega arith
+      fits ends best = let h = spans_le 0 ends (length all) best.divides in let n = many in let l = settle_long.for_answers in omega arith
 
-      asked : (why : Refusal) → Broken (0 < length all) 5 (Broken (settled all ≡ length all) 7 (Broken (Asked (limit_of limit) k) 6 (Broken (BestFits (m.weight (weighing_of f2)) (length all) k (length l2.ends)) 9 NoOther))) why
-          → Broken (Asked (limit_of limit) k) 6 NoOther why
+      asked : (why : Refusal) → Broken (0 < length all) 5 (Broken (settled all ≡ length all) 7 (Broken (Allowed (limit_of limit) k) 6 (Broken (BestFits (m.weight (weighing_of f2)) (length all) k (length l2.ends)) 9 NoOther))) why
+          → Broken (Allowed (limit_of limit) k) 6 NoOther why
       asked why (inl b) = absurd (b.0 (omega arith))
       asked why (inr (some, inl b)) = absurd (b.0 (all_settled rs))
       asked why (inr (some, inr (settled, inl b))) = inl b

@@ -6,9 +6,8 @@ use Rattle.weighing.specs.declared.weighing.Weighing.{Ghosts}
 use Rattle.weighing.specs.Did as weighing
 use Rattle.division.specs.declared.table.Told.{Told}
 use Rattle.division.specs.Divide.{Answered}
-use Rattle.fit.specs.Calls.{Long, limit_of}
+use Rattle.fit.specs.Calls.{Allowed, Long, limit_of}
 use Rattle.fit.specs.Rounds.{SameWeighing}
-use Rattle.runs.specs.Runs.{Asked}
 
 -- The weighing took the reading, and then means what it meant but for its count; the ends are those of the best division of all its
 -- readings.
@@ -23,4 +22,4 @@ pub record Cut {W : Type 0} (m : Ghosts W) (w : W) (reading k : ℕ) (told : Tol
 abbrev pub CutDid : {W : Type 0} → Ghosts W → W → ℕ → ℕ → ℕ → List ℕ → List ℕ → List ℕ → Result Told Refusal → Type 0
 CutDid m w reading limit k ends work ends' (Ok told) = Cut m w reading k told ends'
 CutDid m w reading limit k ends work ends' (Err why) =
-    Broken (m.verdict w reading ≡ 0) (m.verdict w reading) (Broken (Long (m.held w + 1) ends work) 9 (Broken (Asked (limit_of limit) k) 6 NoOther)) why
+    Broken (m.verdict w reading ≡ 0) (m.verdict w reading) (Broken (Long (m.held w + 1) ends work) 9 (Broken (Allowed (limit_of limit) k) 6 NoOther)) why

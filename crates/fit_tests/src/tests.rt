@@ -1,8 +1,9 @@
 //! The cases: figures of every weighing, settles on top of settles, refusals between, and the largest fit.
 use crate::caller::best_with;
 use charge::Charge;
+use counter::Counter;
 use division::cost::Cost;
-use division::table::{Table, Told};
+use division::table::{MOST_READINGS, Table, Told};
 use even::Even;
 use fit::fit::Fit;
 use fit::rounds::Rounds;
@@ -22,13 +23,18 @@ use weighing::weighing::Weighing;
 // What stands in a list before a call: no end has this number.
 const UNTOUCHED: usize = 77_777;
 
-const MOST_READINGS: usize = 512;
-
 const STAGES: [u32; 5] = [2, 2, 5, 9, 9];
 
+fn holding<W: Weighing + Drop>(rt: &impl Abort, mut weighing: W, readings: &[u32]) -> W {
+    for &reading in readings {
+        assert!(rt; weighing.take(reading).is_ok());
+    }
+    weighing
+}
+
 fn take_all<W: Weighing>(rt: &impl Abort, fit: &mut Fit<W>, readings: &[u32]) {
-    for reading in readings {
-        assert!(rt; fit.take(*reading).is_ok());
+    for &reading in readings {
+        assert!(rt; fit.take(reading).is_ok());
     }
 }
 
@@ -36,24 +42,17 @@ fn take_all<W: Weighing>(rt: &impl Abort, fit: &mut Fit<W>, readings: &[u32]) {
 fn settle<W: Weighing>(fit: &mut Fit<W>) -> Result<u64, Fail> {
     let mut answers = [UNTOUCHED; 512];
     let mut work = [UNTOUCHED; 2048];
-    match fit.settle(&mut answers, &mut work) {
-        Ok(told) => Ok(told),
-        Err(_) => Err(Fail::new("the settle is refused")),
-    }
+    fit.settle(&mut answers, &mut work)
+        .map_err(|_| Fail::new("the settle is refused"))
 }
 
-// A division into at most three spans: what is told and what then stands in the list.
-fn divides<W: Weighing>(
-    rt: &impl Abort,
-    fit: &Fit<W>,
-    k: usize,
-    spans: usize,
-    weight: u64,
-    ends: [usize; 3],
-) {
+// A division into at most three spans: what is told, and that the ends alone were written.
+fn divides<W: Weighing>(rt: &impl Abort, fit: &Fit<W>, k: usize, weight: u64, ends: &[usize]) {
     let mut list = [UNTOUCHED; 3];
+    let spans = ends.len();
     assert_eq!(rt; fit.divide(k, &mut list), Ok(Told { spans, weight }));
-    assert_eq!(rt; list, ends);
+    assert!(rt; list.starts_with(ends));
+    assert!(rt; list.iter().skip(spans).all(|&end| end == UNTOUCHED));
 }
 
 // The division of these readings into at most k spans, settled at once.
@@ -62,14 +61,13 @@ fn figure<W: Weighing + Drop>(
     weighing: W,
     readings: &[u32],
     k: usize,
-    spans: usize,
     weight: u64,
-    ends: [usize; 3],
+    ends: &[usize],
 ) -> Result<(), Fail> {
     let mut fit = Fit::open(weighing, 8);
     take_all(rt, &mut fit, readings);
     settle(&mut fit)?;
-    divides(rt, &fit, k, spans, weight, ends);
+    divides(rt, &fit, k, weight, ends);
     Ok(())
 }
 
@@ -80,62 +78,36 @@ fn follow<W: Weighing>(
     work: &mut [usize],
     script: &[(Call, Result<Answer, Refusal>)],
 ) {
-    for (call, answer) in script {
-        assert_eq!(rt; step(fit, *call, ends, work), *answer);
+    for &(call, answer) in script {
+        assert_eq!(rt; step(fit, call, ends, work), answer);
     }
 }
 
 #[test]
 fn figures_of_each_weighing(rt: HostRuntime) -> Result<(), Fail> {
-    figure(&rt, Ceiling::new(), &STAGES, 2, 2, 4, [2, 5, UNTOUCHED])?;
-    figure(&rt, Ceiling::new(), &STAGES, 3, 3, 0, [2, 3, 5])?;
-    figure(
-        &rt,
-        Ceiling::new(),
-        &[2, 2],
-        2,
-        1,
-        0,
-        [2, UNTOUCHED, UNTOUCHED],
-    )?;
-    figure(
-        &rt,
-        Ceiling::new(),
-        &[7],
-        8,
-        1,
-        0,
-        [1, UNTOUCHED, UNTOUCHED],
-    )?;
-    figure(
-        &rt,
-        Ceiling::new(),
-        &[4, 4, 4, 4],
-        3,
-        1,
-        0,
-        [4, UNTOUCHED, UNTOUCHED],
-    )?;
-    figure(&rt, Ceiling::new(), &[1, 2, 3], 8, 3, 0, [1, 2, 3])?;
-    figure(&rt, Middle::new(), &[0, 5, 10], 2, 2, 5, [1, 3, UNTOUCHED])?;
-    figure(&rt, Even::new(2), &STAGES, 2, 2, 1, [2, 5, UNTOUCHED])?;
+    figure(&rt, Ceiling::new(), &STAGES, 2, 4, &[2, 5])?;
+    figure(&rt, Ceiling::new(), &STAGES, 3, 0, &[2, 3, 5])?;
+    figure(&rt, Ceiling::new(), &[2, 2], 2, 0, &[2])?;
+    figure(&rt, Ceiling::new(), &[7], 8, 0, &[1])?;
+    figure(&rt, Ceiling::new(), &[4, 4, 4, 4], 3, 0, &[4])?;
+    figure(&rt, Ceiling::new(), &[1, 2, 3], 8, 0, &[1, 2, 3])?;
+    figure(&rt, Middle::new(), &[0, 5, 10], 2, 5, &[1, 3])?;
+    figure(&rt, Even::new(2), &STAGES, 2, 1, &[2, 5])?;
     figure(
         &rt,
         Charge::new(Ceiling::new(), 10),
         &STAGES,
         3,
-        2,
         24,
-        [2, 5, UNTOUCHED],
+        &[2, 5],
     )?;
     figure(
         &rt,
         Pair::new(Ceiling::new(), Even::new(2)),
         &[2, 2, 2, 2],
         3,
-        2,
         0,
-        [2, 4, UNTOUCHED],
+        &[2, 4],
     )
 }
 
@@ -151,20 +123,20 @@ fn settles_on_top_of_settles(rt: HostRuntime) -> Result<(), Fail> {
     // what is left of settled readings is settled
     assert_eq!(rt; fit.drop_last(), Ok(4));
     assert_eq!(rt; fit.drop_last(), Ok(3));
-    divides(&rt, &fit, 2, 2, 0, [2, 3, UNTOUCHED]);
+    divides(&rt, &fit, 2, 0, &[2, 3]);
     assert_eq!(rt; settle(&mut fit)?, 0);
     // and what comes on top of it is not
     take_all(&rt, &mut fit, &[20, 21, 40]);
     assert_eq!(rt; fit.exact(1), Err(Refusal::NotSettled));
     settle(&mut fit)?;
     assert_eq!(rt; fit.exact(1), Ok(150));
-    divides(&rt, &fit, 2, 2, 45, [3, 6, UNTOUCHED]);
-    divides(&rt, &fit, 3, 3, 7, [3, 5, 6]);
+    divides(&rt, &fit, 2, 45, &[3, 6]);
+    divides(&rt, &fit, 3, 7, &[3, 5, 6]);
     assert_eq!(rt; fit.wipe(), 0);
     take_all(&rt, &mut fit, &[2, 2]);
     assert_eq!(rt; fit.exact(1), Err(Refusal::NotSettled));
     settle(&mut fit)?;
-    divides(&rt, &fit, 2, 1, 0, [2, UNTOUCHED, UNTOUCHED]);
+    divides(&rt, &fit, 2, 0, &[2]);
     assert_eq!(rt; fit.exact(3), Err(Refusal::WrongSpans));
     Ok(())
 }
@@ -251,7 +223,7 @@ fn settles_in_the_first_places(rt: HostRuntime) -> Result<(), Fail> {
     assert_eq!(rt; [answers[1], answers[2]], [UNTOUCHED; 2]);
     assert_eq!(rt; [work[4], work[5]], [UNTOUCHED; 2]);
     assert_eq!(rt; fit.exact(1), Ok(18));
-    divides(&rt, &fit, 2, 2, 4, [2, 6, UNTOUCHED]);
+    divides(&rt, &fit, 2, 4, &[2, 6]);
     Ok(())
 }
 
@@ -288,10 +260,7 @@ fn largest_fit(rt: HostRuntime) -> Result<(), Fail> {
 
 #[test]
 fn caller_gets_the_best_division(rt: HostRuntime) {
-    let mut weighing = Ceiling::new();
-    for reading in [2, 2, 5, 9] {
-        assert!(rt; weighing.take(reading).is_ok());
-    }
+    let weighing = holding(&rt, Ceiling::new(), &[2, 2, 5, 9]);
     let mut ends = [UNTOUCHED; 5];
     let mut work = [UNTOUCHED; 20];
     assert_eq!(rt;
@@ -328,41 +297,46 @@ fn run_makes_the_calls_that_have_room(rt: HostRuntime) {
         &mut work,
     );
     assert_eq!(rt; fit.held(), 2);
-    assert_eq!(rt; answers[0], Ok(Answer::Held(1)));
-    assert_eq!(rt; answers[1], Err(Refusal::ReadingFalls));
-    assert_eq!(rt; answers[2], Ok(Answer::Held(2)));
-    assert_eq!(rt; answers[3], Err(Refusal::NotSettled));
-    assert_eq!(rt; answers[5], Ok(Answer::Settled(0)));
     assert_eq!(rt;
-        answers[6],
-        Ok(Answer::Divided(Told {
-            spans: 2,
-            weight: 0,
-        }))
+        &answers[..4],
+        [
+            Ok(Answer::Held(1)),
+            Err(Refusal::ReadingFalls),
+            Ok(Answer::Held(2)),
+            Err(Refusal::NotSettled),
+        ]
+        .as_slice()
+    );
+    assert_eq!(rt;
+        &answers[5..],
+        [
+            Ok(Answer::Settled(0)),
+            Ok(Answer::Divided(Told {
+                spans: 2,
+                weight: 0,
+            })),
+        ]
+        .as_slice()
     );
     assert_eq!(rt; ends, [1, 2, UNTOUCHED]);
 }
 
 // what a span weighs, or more than any span
 fn weight_of<W: Weighing>(weighing: &mut W, a: usize, b: usize) -> u64 {
-    match weighing.weigh(a, b) {
-        Ok(weight) => weight,
-        Err(_) => u64::MAX,
-    }
+    weighing.weigh(a, b).unwrap_or(u64::MAX)
 }
 
-// The leftmost best cut of the first readings into two spans, by trying every one, and what they weigh.
-fn every_cut_tried<W: Weighing>(weighing: &mut W, readings: usize) -> (usize, u64) {
-    let mut best = 0;
-    let mut least = u64::MAX;
-    for cut in 1..readings {
-        let weight = weight_of(weighing, 0, cut).saturating_add(weight_of(weighing, cut, readings));
-        if weight < least {
-            best = cut;
-            least = weight;
-        }
-    }
-    (best, least)
+// What the first readings weigh at least in two spans, by trying every cut, and the leftmost cut that reaches it.
+fn every_cut_tried<W: Weighing>(weighing: &mut W, readings: usize) -> Option<(u64, usize)> {
+    (1..readings)
+        .map(|cut| {
+            let before = weight_of(weighing, 0, cut);
+            (
+                before.saturating_add(weight_of(weighing, cut, readings)),
+                cut,
+            )
+        })
+        .min()
 }
 
 // One round of the row search over the tallies of one span finds the best single cut of each first part of a lead.
@@ -372,9 +346,9 @@ fn cuts_as_tried<W: Weighing + Drop>(rt: &impl Abort, weighing: W) {
         weighing,
         table: Table::new(),
         round: 1,
-        ledger: 0,
+        ledger: Counter::new(),
     };
-    for j in 1..n + 1 {
+    for j in 1..=n {
         let whole = weight_of(&mut rounds.weighing, 0, j);
         rounds.table.put(1, j, Cost::Number(whole), 0);
     }
@@ -387,20 +361,20 @@ fn cuts_as_tried<W: Weighing + Drop>(rt: &impl Abort, weighing: W) {
     let mut cuts = [UNTOUCHED; 512];
     let mut work = [UNTOUCHED; 2048];
     assert!(rt; search(&mut rounds, strip, &mut cuts, &mut work).is_ok());
-    for j in 2..n + 1 {
-        let (cut, least) = every_cut_tried(&mut rounds.weighing, j);
-        assert_eq!(rt; cuts[j - 1], cut);
+    for j in 2..=n {
+        let cut = cuts[j - 1];
+        let Some((least, best)) = every_cut_tried(&mut rounds.weighing, j) else {
+            panic!(rt; "no cut");
+        };
+        assert_eq!(rt; cut, best);
         assert_eq!(rt; rounds.entry(j - 1, cut), Ok(Cost::Number(least)));
     }
 }
 
 #[test]
 fn single_cuts_as_tried(rt: HostRuntime) {
-    let mut stages = Ceiling::new();
-    for reading in [10, 10, 11, 40, 41, 41, 41, 80, 80] {
-        assert!(rt; stages.take(reading).is_ok());
-    }
-    cuts_as_tried(&rt, stages);
+    let stages = [10, 10, 11, 40, 41, 41, 41, 80, 80];
+    cuts_as_tried(&rt, holding(&rt, Ceiling::new(), &stages));
     let mut even = Middle::new();
     for reading in 0..200u32 {
         assert!(rt; even.take(reading * 3).is_ok());

@@ -1,5 +1,6 @@
 -- What every run of a fit keeps, and so what its next call answers.
 use Rattle.std.proofs.Common.{◌≡◌, ℕ, zero, suc, ◌+◌, ◌-◌, ◌*◌, ◌<◌, ◌≤◌, min, Bool, true, false, ◌⊎◌, List, [], ◌∷◌, map, length, replicate, Ok, Err, Result, sym, refl, ap, ◌∙◌, subst, inl, inr, arith}
+use Rattle.std.proofs.lemmas.List.{length-map}
 use Rattle.refusal.specs.declared.Refusal.{Refusal}
 use Rattle.weighing.specs.declared.weighing.Weighing.{Ghosts}
 use Rattle.division.specs.declared.table.Told.{Told}
@@ -11,7 +12,7 @@ use Rattle.runs.specs.declared.step.Call.TheVariants.{Take, Drop, Wipe, Settle, 
 use Rattle.runs.specs.declared.step.Answer.{Answer}
 use Rattle.runs.specs.declared.step.Answer.TheVariants.{Held, Settled, Divided, Weight}
 use Rattle.fit.specs.Calls.{Sound, Allowed, Long, TakeDid, DropDid, WipeDid, SettleDid, DivideDid, ExactDid, size, unsettled, weighing_of, limit_of}
-use Rattle.runs.specs.Runs.{ByHeld, BySettled, ByDivided, ByWeight, Unrefused, Lists, Did, Event, Reached, opened, called, all_but_last, after_call, readings, settled, Asked, TakeMeets, DropMeets, SettleMeets, DivideMeets, ExactMeets, Meets, Law}
+use Rattle.runs.specs.Runs.{ByHeld, BySettled, ByDivided, ByWeight, Unrefused, Lists, Did, Event, Reached, opened, called, all_but_last, after_call, readings, settled, TakeMeets, DropMeets, SettleMeets, DivideMeets, ExactMeets, Meets, Law}
 
 -- an answer of the right kind, or a refusal
 module _ (C : Result Answer Refusal → Type 0) where
@@ -69,10 +70,6 @@ brought : (n : ℕ) → Unsettled n (replicate n false)
 brought zero = record { many = refl; none = refl; ordered = tt }
 brought (suc n) = let b = brought n in record { many = ap suc b.many; none = b.none; ordered = b.ordered }
 
-map_length : (rs : List Bool) → length (map (λ (r : Bool). true) rs) ≡ length rs
-map_length [] = refl
-map_length (r ∷ rs) = ap suc (map_length rs)
-
 map_settled : (rs : List Bool) → settled (map (λ (r : Bool). true) rs) ≡ length rs
 map_settled [] = refl
 map_settled (r ∷ rs) = let h = map_settled rs in omega arith
@@ -118,7 +115,7 @@ module _ {W : Type 0} (m : Ghosts W) (limit : ℕ) where
       record { sound = s.sound k.sound; limited = omega arith; many = omega arith; marked = omega arith; ordered = tt })
       (λ why p. absurd p) r d.0
   next rs f f' Settle l l' r k d = settled_elim (λ r. Kept m limit (after_call rs Settle r) f') (λ r. SettleDid m f l.ends l.work r f' l'.ends l'.work)
-      (λ n p. let s = p.2 in let mark = s.mark_is in let lim = s.limit_same in let hold = s.weighing_same.held_same in let len = map_length rs in let all = map_settled rs in let a = k.limited in let b = k.many in
+      (λ n p. let s = p.2 in let mark = s.mark_is in let lim = s.limit_same in let hold = s.weighing_same.held_same in let len = length-map rs (λ (r : Bool). true) in let all = map_settled rs in let a = k.limited in let b = k.many in
       record { sound = s.sound k.sound; limited = omega arith; many = omega arith; marked = omega arith; ordered = all_ordered (map (λ (r : Bool). true) rs) (all ∙ sym len) })
       (λ why p. kept_same p.1 k) r d
   next rs f f' (Divide j) l l' r k d = divided_elim (λ r. Kept m limit (after_call rs (Divide j) r) f') (λ r. DivideDid m f j l.ends r l'.ends) (λ n p. kept_same d.2 k) (λ why p. kept_same d.2 k) r d.0
@@ -154,11 +151,11 @@ module _ {W : Type 0} (m : Ghosts W) (limit : ℕ) (rs : List Bool) (f f' : Fit 
   at_end : settled rs ≡ length rs → size m f ≤ f.mark
   at_end h = let a = k.many in let b = k.marked in omega arith
 
-  asked : {j : ℕ} → Allowed f.limit j → Asked limit j
-  asked a = let some = a.some in let few = a.few in let l = k.limited in record { some = some; few = omega arith }
+  asked : {j : ℕ} → Allowed f.limit j → Allowed limit j
+  asked {j} = subst (λ x. Allowed x j) k.limited
 
-  allowed : {j : ℕ} → Asked limit j → Allowed f.limit j
-  allowed a = let some = a.some in let few = a.few in let l = k.limited in let e = k.sound.limited in record { some = some; few = omega arith; eight = omega arith }
+  allowed : {j : ℕ} → Allowed limit j → Allowed f.limit j
+  allowed {j} = subst (λ x. Allowed x j) (sym k.limited)
 
   some_held : 0 < size m f → 0 < length rs
   some_held = subst (λ n. 0 < n) many_is
@@ -166,12 +163,9 @@ module _ {W : Type 0} (m : Ghosts W) (limit : ℕ) (rs : List Bool) (f f' : Fit 
   some_size : 0 < length rs → 0 < size m f
   some_size = subst (λ n. 0 < n) k.many
 
-  settle_told : {told : ℕ} → told ≤ min 8 f.limit * (4 * size m f + 13 * unsettled m f) → told ≤ limit * (4 * length rs + 13 * (length rs - settled rs))
+  settle_told : {told : ℕ} → told ≤ f.limit * (4 * size m f + 13 * unsettled m f) → told ≤ limit * (4 * length rs + 13 * (length rs - settled rs))
   settle_told {told} few =
-      let l = k.limited in
-      let e = k.sound.limited in
-      let lim : min 8 f.limit ≡ limit = omega arith in
-      subst (λ x. told ≤ x * (4 * length rs + 13 * (length rs - settled rs))) lim (subst (λ x. told ≤ min 8 f.limit * (4 * length rs + 13 * x)) unsettled_is (subst (λ x. told ≤ min 8 f.limit * (4 * x + 13 * unsettled m f)) many_is few))
+      subst (λ x. told ≤ x * (4 * length rs + 13 * (length rs - settled rs))) k.limited (subst (λ x. told ≤ f.limit * (4 * length rs + 13 * x)) unsettled_is (subst (λ x. told ≤ f.limit * (4 * x + 13 * unsettled m f)) many_is few))
 
   meets : (call : Call) (l l' : Lists) (r : Result Answer Refusal) → Did m f call l r f' l' → Meets m (weighing_of f) (weighing_of f') limit rs call l r l'
   meets (Take x) l l' r d = (

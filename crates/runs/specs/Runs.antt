@@ -11,7 +11,7 @@ use Rattle.runs.specs.declared.step.Call.{Call}
 use Rattle.runs.specs.declared.step.Call.TheVariants.{Take, Drop, Wipe, Settle, Divide, Exact}
 use Rattle.runs.specs.declared.step.Answer.{Answer}
 use Rattle.runs.specs.declared.step.Answer.TheVariants.{Held, Settled, Divided, Weight}
-use Rattle.fit.specs.Calls.{Opens, TakeDid, DropDid, WipeDid, SettleDid, DivideDid, ExactDid, Long, limit_of, weighing_of}
+use Rattle.fit.specs.Calls.{Opens, TakeDid, DropDid, WipeDid, SettleDid, DivideDid, ExactDid, Allowed, Long, limit_of, weighing_of}
 use Rattle.fit.specs.Filling.{KeptFrom}
 
 -- A call is answered by its own kind of answer, or refused.
@@ -104,11 +104,6 @@ abbrev pub settled : List Bool → ℕ
 settled [] = 0
 settled (r ∷ rs) = cond r (settled rs + 1) (settled rs)
 
--- so many spans may be asked for
-pub record Asked (limit k : ℕ) : Type 0 where
-  pub some : 0 < k
-  pub few : k ≤ limit
-
 -- What the next call answers, by the readings rs that are held, the limit, the weighing that is owned before and after it, and
 -- the lists alone.
 module _ {W : Type 0} (m : Ghosts W) (w w' : W) (limit : ℕ) (rs : List Bool) where
@@ -137,15 +132,15 @@ module _ {W : Type 0} (m : Ghosts W) (w w' : W) (limit : ℕ) (rs : List Bool) w
   -- spans, or as many and at the last place where their breakpoints differ its own is later
   abbrev pub DivideMeets : ℕ → Lists → Lists → Result Told Refusal → Type 0
   DivideMeets k l l' (Ok told) =
-      (0 < length rs) × (settled rs ≡ length rs) × Asked limit k × Answered (m.weight w) (length rs) k told l'.ends
+      (0 < length rs) × (settled rs ≡ length rs) × Allowed limit k × Answered (m.weight w) (length rs) k told l'.ends
       × (drop told.spans l'.ends ≡ drop told.spans l.ends) × (l'.work ≡ l.work)
   DivideMeets k l l' (Err why) =
-      Broken (0 < length rs) 5 (Broken (settled rs ≡ length rs) 7 (Broken (Asked limit k) 6 (Broken (BestFits (m.weight w) (length rs) k (length l.ends)) 9 NoOther))) why
+      Broken (0 < length rs) 5 (Broken (settled rs ≡ length rs) 7 (Broken (Allowed limit k) 6 (Broken (BestFits (m.weight w) (length rs) k (length l.ends)) 9 NoOther))) why
       × (l' ≡ l)
 
   abbrev pub ExactMeets : ℕ → Result ℕ Refusal → Type 0
-  ExactMeets k (Ok v) = (0 < length rs) × (settled rs ≡ length rs) × Asked limit k × (k ≤ length rs) × Least (m.weight w) k (length rs) v
-  ExactMeets k (Err why) = Broken (0 < length rs) 5 (Broken (settled rs ≡ length rs) 7 (Broken (Asked limit k × (k ≤ length rs)) 6 NoOther)) why
+  ExactMeets k (Ok v) = (0 < length rs) × (settled rs ≡ length rs) × Allowed limit k × (k ≤ length rs) × Least (m.weight w) k (length rs) v
+  ExactMeets k (Err why) = Broken (0 < length rs) 5 (Broken (settled rs ≡ length rs) 7 (Broken (Allowed limit k × (k ≤ length rs)) 6 NoOther)) why
 
   abbrev pub Meets : Call → Lists → Result Answer Refusal → Lists → Type 0
   Meets (Take reading) l r l' = ByHeld (TakeMeets reading) r × (l' ≡ l)

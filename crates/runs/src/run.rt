@@ -9,6 +9,7 @@ use refusal::Refusal;
 use weighing::weighing::Weighing;
 
 // Makes each call, as many as there is room for answers.
+// Two lists and no struct that lends both: each contract would have to add that either field is still the caller's list.
 fn make_all<W: Weighing>(
     fit: &mut Fit<W>,
     calls: &[Call],
@@ -18,6 +19,7 @@ fn make_all<W: Weighing>(
 )
     ensures after { (w : W) (k : ℕ) → Opens W.Weighing w k fit.old → Ran W.Weighing w k (min (length calls.now) (length answers.old)) calls.now answers.old answers.new fit.new }
 {
+    // By index: of elements that an iterator lends to be written, a proof learns no value.
     for i in 0..calls.len().min(answers.len()) {
         answers[i] = step(fit, calls[i], ends, work);
     }

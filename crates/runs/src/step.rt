@@ -27,32 +27,12 @@ pub enum Answer {
     Weight(u64),
 }
 
-fn act<W: Weighing>(
-    fit: &mut Fit<W>,
-    call: Call,
-    ends: &mut [usize],
-    work: &mut [usize],
-) -> Result<Answer, Refusal>
-    ensures did { Did W.Weighing fit.old call (record { ends = ends.old; work = work.old }) result fit.new (record { ends = ends.new; work = work.new }) }
-{
-    match call {
-        Call::Take(reading) => Ok(Answer::Held(fit.take(reading)?)),
-        Call::Drop => Ok(Answer::Held(fit.drop_last()?)),
-        Call::Wipe => Ok(Answer::Held(fit.wipe())),
-        Call::Settle => Ok(Answer::Settled(fit.settle(ends, work)?)),
-        Call::Divide(k) => match fit.divide(k, ends) {
-            Ok(told) => Ok(Answer::Divided(told)),
-            Err(why) => Err(why),
-        },
-        Call::Exact(k) => Ok(Answer::Weight(fit.exact(k)?)),
-    }
-}
-
 /// Makes any of the six calls. `ends` takes a settle's answers and a divide's ends, and `work` is for a settle.
 ///
 /// The law over runs stands here: over any weighing and limit, and after any calls since the fit was opened, the
 /// call is answered or refused by the readings then held and which of them are settled, and an answered divide
 /// names the best division of them.
+#[tactic(auto, using(crate::proofs::Runs::law))]
 pub fn step<W: Weighing>(
     fit: &mut Fit<W>,
     call: Call,
@@ -62,5 +42,12 @@ pub fn step<W: Weighing>(
     ensures did { Did W.Weighing fit.old call (record { ends = ends.old; work = work.old }) result fit.new (record { ends = ends.new; work = work.new }) }
     ensures law { Law W.Weighing fit.old fit.new call (record { ends = ends.old; work = work.old }) result (record { ends = ends.new; work = work.new }) }
 {
-    act(fit, call, ends, work)
+    match call {
+        Call::Take(reading) => Ok(Answer::Held(fit.take(reading)?)),
+        Call::Drop => Ok(Answer::Held(fit.drop_last()?)),
+        Call::Wipe => Ok(Answer::Held(fit.wipe())),
+        Call::Settle => Ok(Answer::Settled(fit.settle(ends, work)?)),
+        Call::Divide(k) => fit.divide(k, ends).map(Answer::Divided),
+        Call::Exact(k) => Ok(Answer::Weight(fit.exact(k)?)),
+    }
 }

@@ -11,7 +11,3 @@ loop-i-preserved g c w k o =
     ran_more g.W.Weighing w k c.loop-i.i c.args.calls.now c.args.answers.now c.loop-i.answers c.loop-i.fit c.step.new.fit _ c.step.result _ _ (omega arith) (omega arith)
     c.step.ensures.did c.step.ensures.law (c.loop-i.invariant w k o)
 
-pub returns : goal.returns
-returns g c =
-    let all : c.loop-i.i ≡ min (length c.args.calls.now) (length c.args.answers.now) = omega arith in
-    record { after = λ w k o. subst (λ n. Ran g.W.Weighing w k n c.args.calls.now c.args.answers.now c.loop-i.answers c.loop-i.fit) all (c.loop-i.invariant w k o) }

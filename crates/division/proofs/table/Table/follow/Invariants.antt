@@ -10,6 +10,3 @@ invariant-loop-i l =
     (l.i ≤ l.s)
     × (trail (cut_at l.self) l.s l.n ≡ trail (cut_at l.self) l.i l.j ++ drop l.i (take l.s l.ends))
     × (drop l.s l.ends ≡ drop l.s l.initial.ends)
-
-abbrev pub decreases-loop-i : goal.decreases-loop-i
-decreases-loop-i l = l.i

@@ -3,13 +3,12 @@ use Rattle.fit.proofs.fit.Fit.open.Goals as goal
 
 pub returns : goal.returns
 returns g c =
-    let least = c.max.ensures in
-    let most = c.min.ensures in
+    let limit = c.clamp.ensures in
     record {
       value = record {
         owns = refl;
         limited = omega arith;
         unmarked = refl;
-        sound = record { marked = omega arith; limited = omega arith; right = c.new.ensures.right (g.W.Weighing.weight c.args.weighing) c.min.result };
+        sound = record { marked = omega arith; right = c.new.ensures.right (g.W.Weighing.weight c.args.weighing) c.clamp.result };
       };
     }

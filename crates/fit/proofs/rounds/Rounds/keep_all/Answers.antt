@@ -1,9 +1,6 @@
 use Rattle.std.proofs.Common.{◌+◌, ◌<◌, arith}
-use Rattle.fit.proofs.Kept.{kept_none, kept_more}
+use Rattle.fit.proofs.Kept.{kept_more}
 use Rattle.fit.proofs.rounds.Rounds.keep_all.Goals as goal
-
-pub loop-i-init : goal.loop-i-init
-loop-i-init g c = (kept_none g.W.Weighing c.args.self.now c.args.mark c.args.columns.now, omega arith)
 
 pub loop-i-preserved : goal.loop-i-preserved
 loop-i-preserved g c =

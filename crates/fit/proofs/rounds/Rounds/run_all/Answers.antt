@@ -1,8 +1,5 @@
-use Rattle.fit.proofs.Kept.{rounds_none, rounds_more}
+use Rattle.fit.proofs.Kept.{rounds_more}
 use Rattle.fit.proofs.rounds.Rounds.run_all.Goals as goal
-
-pub loop-round-init : goal.loop-round-init
-loop-round-init g c = rounds_none g.W.Weighing c.args.self.now c.args.mark c.args.answers.now c.args.work.now
 
 pub loop-round-preserved : goal.loop-round-preserved
 loop-round-preserved g c = rounds_more g.W.Weighing c.loop-round.invariant c.run.ensures.after

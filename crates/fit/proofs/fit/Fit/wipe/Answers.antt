@@ -1,8 +1,0 @@
-use Rattle.std.proofs.Common.{refl}
-use Rattle.fit.proofs.Sound.{shifts}
-use Rattle.fit.proofs.fit.Fit.wipe.Goals as goal
-
-pub returns : goal.returns
-returns g c =
-    let did = c.wipe-none.ensures in
-    record { answer = (did.answer, shifts g.W.Weighing did.answer.1 did.levels refl refl c.min-self.ensures) }
