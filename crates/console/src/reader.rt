@@ -3,8 +3,8 @@ ghost use Rattle.std.specs.Prelude.{◌≡◌, ℕ, ◌≤◌, length};
 ghost use Rattle.console.specs.Grammar.{Says, Opens, Short, told, told_opening};
 ghost use Rattle.console.specs.Lines.{place_after, BytesNext, Next};
 
-use crate::before::up_to;
 use crate::command::{Command, Opening};
+use crate::split::split_once;
 use crate::words::{command_of, opening_of};
 use refusal::Refusal;
 
@@ -33,10 +33,7 @@ impl<'a> Reader<'a> {
         ensures place { self.new.place ≡ place_after self.old.input.now self.old.place }
         ensures answer { Next told (Short Says) self.old.input.now self.old.place result }
     {
-        match self.pass_line()? {
-            Ok(line) => Some(command_of(line)),
-            Err(why) => Some(Err(why)),
-        }
+        Some(self.pass_line()?.and_then(command_of))
     }
 
     /// What the next line opens, read as the first of a session, or that it is not understood; none when no bytes are left.
@@ -45,10 +42,7 @@ impl<'a> Reader<'a> {
         ensures place { self.new.place ≡ place_after self.old.input.now self.old.place }
         ensures answer { Next told_opening (Short Opens) self.old.input.now self.old.place result }
     {
-        match self.pass_line()? {
-            Ok(line) => Some(opening_of(line)),
-            Err(why) => Some(Err(why)),
-        }
+        Some(self.pass_line()?.and_then(opening_of))
     }
 
     fn pass_line(&mut self) -> Option<Result<&'a [u8], Refusal>>
@@ -60,11 +54,9 @@ impl<'a> Reader<'a> {
         if rest.is_empty() {
             return None;
         }
-        let line = up_to(rest, b'\n');
-        self.place += line.len().saturating_add(1).min(rest.len());
-        if line.len() > MOST_BYTES {
-            return Some(Err(Refusal::NotUnderstood));
-        }
-        Some(Ok(line))
+        let (line, behind) = split_once(rest, b'\n').unwrap_or((rest, &[]));
+        self.place = self.input.len() - behind.len();
+        let short = line.len() <= MOST_BYTES;
+        Some(short.then_some(line).ok_or(Refusal::NotUnderstood))
     }
 }
