@@ -18,6 +18,7 @@ pub struct Reader<'a> {
     ghost within: { place ≤ length input.now },
 }
 
+// Not an `Iterator`: the first line is read by other words than the later ones.
 impl<'a> Reader<'a> {
     /// A reader at the start of the input.
     pub fn new(input: &'a [u8]) -> Reader<'a>
