@@ -100,11 +100,9 @@ pub fn conduct<L: Listener>(input: &[u8], listener: &mut L) -> io::Result<()>
     ensures heard { OnOk result (Conducted L.Listener.hears input.now listener.old listener.new) }
 {
     let mut reader = Reader::new(input);
-    let Some(line) = reader.next_opening() else {
-        return Ok(());
-    };
-    match line {
-        Ok(opening) => begin(&mut reader, opening, listener),
-        Err(why) => listener.hear(refused(why)),
+    match reader.next_opening() {
+        Some(Ok(opening)) => begin(&mut reader, opening, listener),
+        Some(Err(why)) => listener.hear(refused(why)),
+        None => Ok(()),
     }
 }
