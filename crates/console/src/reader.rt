@@ -1,7 +1,7 @@
 //! The input, read line by line.
 ghost use Rattle.std.specs.Prelude.{◌≡◌, ℕ, ◌≤◌, length};
 ghost use Rattle.console.specs.Grammar.{Says, Opens, Short, told, told_opening};
-ghost use Rattle.console.specs.Lines.{place_after, BytesNext, Next};
+ghost use Rattle.console.specs.Lines.{BytesNext, Next};
 
 use crate::command::{Command, Opening};
 use crate::split::split_once;
@@ -20,6 +20,8 @@ pub struct Reader<'a> {
 
 // Not an `Iterator`: the first line is read by other words than the later ones.
 impl<'a> Reader<'a> {
+    ghost use Rattle.console.specs.Passing.{Passed};
+
     /// A reader at the start of the input.
     pub fn new(input: &'a [u8]) -> Reader<'a>
         ensures input { result.input.now ≡ input.now }
@@ -30,8 +32,7 @@ impl<'a> Reader<'a> {
 
     /// What the next line asks of the fit, or that it is not understood; none when no bytes are left.
     pub fn next_line(&mut self) -> Option<Result<Command<'a>, Refusal>>
-        ensures input { self.new.input.now ≡ self.old.input.now }
-        ensures place { self.new.place ≡ place_after self.old.input.now self.old.place }
+        ensures passed { Passed self.old self.new }
         ensures answer { Next told (Short Says) self.old.input.now self.old.place result }
     {
         Some(self.pass_line()?.and_then(command_of))
@@ -39,16 +40,14 @@ impl<'a> Reader<'a> {
 
     /// What the next line opens, read as the first of a session, or that it is not understood; none when no bytes are left.
     pub fn next_opening(&mut self) -> Option<Result<Opening<'a>, Refusal>>
-        ensures input { self.new.input.now ≡ self.old.input.now }
-        ensures place { self.new.place ≡ place_after self.old.input.now self.old.place }
+        ensures passed { Passed self.old self.new }
         ensures answer { Next told_opening (Short Opens) self.old.input.now self.old.place result }
     {
         Some(self.pass_line()?.and_then(opening_of))
     }
 
     fn pass_line(&mut self) -> Option<Result<&'a [u8], Refusal>>
-        ensures input { self.new.input.now ≡ self.old.input.now }
-        ensures place { self.new.place ≡ place_after self.old.input.now self.old.place }
+        ensures passed { Passed self.old self.new }
         ensures answer { BytesNext self.old.input.now self.old.place result }
     {
         let rest = &self.input[self.place..];
