@@ -1,3 +1,3 @@
+pub mod Grammar
 pub mod Numerals
 pub mod Lines
-pub mod Grammar

@@ -1,5 +1,5 @@
 -- What the lines of a session say: their words with one space between them, and the digits of their numbers.
-use Rattle.std.specs.Prelude.{◌≡◌, ℕ, ◌≤◌, List, ◌++◌, length, Some, None, Ok, Err, codes, Option, Result, ◌≢◌}
+use Rattle.std.specs.Prelude.{◌≡◌, ℕ, ◌≤◌, List, ◌++◌, length, Ok, Err, codes, Result}
 use Rattle.std.specs.Borrow.{Bor}
 use Rattle.refusal.specs.declared.Refusal.{Refusal}
 use Rattle.refusal.specs.Numbers.{number}
@@ -62,17 +62,12 @@ told_opening (Ceiling limit) = for_ceiling limit.now
 told_opening (Middle limit) = for_middle limit.now
 told_opening (Even long limit) = for_even long.now limit.now
 
--- what follows the word, if the line begins with it
-abbrev pub Follows : List ℕ → List ℕ → Option (Bor (List ℕ)) → Type 0
-Follows word line (Some rest) = line ≡ word ++ rest.now
-Follows word line None = (rest : List ℕ) → line ≢ word ++ rest
+-- the bytes, if they are a numeral; or 14, if they are none
+abbrev pub ReadNumeral : List ℕ → Result (Bor (List ℕ)) Refusal → Type 0
+ReadNumeral bytes (Ok digits) = (digits.now ≡ bytes) × Numeral bytes
+ReadNumeral bytes (Err why) = (number why ≡ 14) × (Numeral bytes → ⊥)
 
--- the number that follows the word, if the line is the word and a number
-abbrev pub Numbered : List ℕ → List ℕ → Option (Bor (List ℕ)) → Type 0
-Numbered word line (Some digits) = (line ≡ word ++ digits.now) × Numeral digits.now
-Numbered word line None = (digits : List ℕ) → line ≡ word ++ digits → Numeral digits → ⊥
-
--- the two numbers, if the words are two numbers
-abbrev pub TwoNumbers : List ℕ → Option (Bor (List ℕ) × Bor (List ℕ)) → Type 0
-TwoNumbers words (Some both) = (words ≡ both.0.now ++ (codes " " ++ both.1.now)) × Numeral both.0.now × Numeral both.1.now
-TwoNumbers words None = (first second : List ℕ) → words ≡ first ++ (codes " " ++ second) → Numeral first → Numeral second → ⊥
+-- the two numbers, if the words are two numbers; or 14, if they are not
+abbrev pub ReadTwo : List ℕ → Result (Bor (List ℕ) × Bor (List ℕ)) Refusal → Type 0
+ReadTwo words (Ok both) = (words ≡ both.0.now ++ (codes " " ++ both.1.now)) × Numeral both.0.now × Numeral both.1.now
+ReadTwo words (Err why) = (number why ≡ 14) × ((first second : List ℕ) → words ≡ first ++ (codes " " ++ second) → Numeral first → Numeral second → ⊥)

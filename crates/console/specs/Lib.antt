@@ -1,3 +1,4 @@
 pub mod Numerals
 pub mod Grammar
 pub mod Lines
+pub mod Passing

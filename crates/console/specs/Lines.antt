@@ -1,5 +1,6 @@
 -- Where the lines of an input begin and end, and what reading the next one answers.
-use Rattle.std.specs.Prelude.{◌≡◌, ℕ, ◌+◌, ◌<◌, ◌≤◌, min, cond, List, [], ◌∷◌, length, drop, Some, None, Ok, Err, Option, Result, ◌==◌}
+use Rattle.std.specs.Prelude.{◌≡◌, ℕ, ◌+◌, ◌<◌, ◌≤◌, min, List, length, drop, Some, None, Ok, Err, Option, Result, ◌==◌}
+use Rattle.std.specs.List.{before_first}
 use Rattle.std.specs.Borrow.{Bor}
 use Rattle.refusal.specs.declared.Refusal.{Refusal}
 use Rattle.refusal.specs.Numbers.{number}
@@ -7,8 +8,7 @@ use Rattle.console.specs.Grammar.{Understood}
 
 -- the bytes before the first stop, or all of them where there is none
 abbrev pub before : ℕ → List ℕ → List ℕ
-before stop [] = []
-before stop (byte ∷ bytes) = cond (byte == stop) [] (byte ∷ before stop bytes)
+before stop = before_first (λ byte. byte == stop)
 
 -- the line that begins at the place goes up to the next byte 10 or to the end of the input
 abbrev pub line_at : List ℕ → ℕ → List ℕ

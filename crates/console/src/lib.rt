@@ -1,10 +1,10 @@
 //! The input of a session, read line by line as commands.
 #![tactic(auto)]
 
-mod before;
 mod command;
 mod digits;
 mod reader;
+mod split;
 mod words;
 
 pub use command::{Command, Opening};

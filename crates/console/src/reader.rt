@@ -1,10 +1,10 @@
 //! The input, read line by line.
 ghost use Rattle.std.specs.Prelude.{◌≡◌, ℕ, ◌≤◌, length};
 ghost use Rattle.console.specs.Grammar.{Says, Opens, Short, told, told_opening};
-ghost use Rattle.console.specs.Lines.{place_after, BytesNext, Next};
+ghost use Rattle.console.specs.Lines.{BytesNext, Next};
 
-use crate::before::up_to;
 use crate::command::{Command, Opening};
+use crate::split::split_once;
 use crate::words::{command_of, opening_of};
 use refusal::Refusal;
 
@@ -18,7 +18,10 @@ pub struct Reader<'a> {
     ghost within: { place ≤ length input.now },
 }
 
+// Not an `Iterator`: the first line is read by other words than the later ones.
 impl<'a> Reader<'a> {
+    ghost use Rattle.console.specs.Passing.{Passed};
+
     /// A reader at the start of the input.
     pub fn new(input: &'a [u8]) -> Reader<'a>
         ensures input { result.input.now ≡ input.now }
@@ -29,42 +32,31 @@ impl<'a> Reader<'a> {
 
     /// What the next line asks of the fit, or that it is not understood; none when no bytes are left.
     pub fn next_line(&mut self) -> Option<Result<Command<'a>, Refusal>>
-        ensures input { self.new.input.now ≡ self.old.input.now }
-        ensures place { self.new.place ≡ place_after self.old.input.now self.old.place }
+        ensures passed { Passed self.old self.new }
         ensures answer { Next told (Short Says) self.old.input.now self.old.place result }
     {
-        match self.pass_line()? {
-            Ok(line) => Some(command_of(line)),
-            Err(why) => Some(Err(why)),
-        }
+        Some(self.pass_line()?.and_then(command_of))
     }
 
     /// What the next line opens, read as the first of a session, or that it is not understood; none when no bytes are left.
     pub fn next_opening(&mut self) -> Option<Result<Opening<'a>, Refusal>>
-        ensures input { self.new.input.now ≡ self.old.input.now }
-        ensures place { self.new.place ≡ place_after self.old.input.now self.old.place }
+        ensures passed { Passed self.old self.new }
         ensures answer { Next told_opening (Short Opens) self.old.input.now self.old.place result }
     {
-        match self.pass_line()? {
-            Ok(line) => Some(opening_of(line)),
-            Err(why) => Some(Err(why)),
-        }
+        Some(self.pass_line()?.and_then(opening_of))
     }
 
     fn pass_line(&mut self) -> Option<Result<&'a [u8], Refusal>>
-        ensures input { self.new.input.now ≡ self.old.input.now }
-        ensures place { self.new.place ≡ place_after self.old.input.now self.old.place }
+        ensures passed { Passed self.old self.new }
         ensures answer { BytesNext self.old.input.now self.old.place result }
     {
         let rest = &self.input[self.place..];
         if rest.is_empty() {
             return None;
         }
-        let line = up_to(rest, b'\n');
-        self.place += line.len().saturating_add(1).min(rest.len());
-        if line.len() > MOST_BYTES {
-            return Some(Err(Refusal::NotUnderstood));
-        }
-        Some(Ok(line))
+        let (line, behind) = split_once(rest, b'\n').unwrap_or((rest, &[]));
+        self.place = self.input.len() - behind.len();
+        let short = line.len() <= MOST_BYTES;
+        Some(short.then_some(line).ok_or(Refusal::NotUnderstood))
     }
 }

@@ -52,9 +52,7 @@ mod tests {
         ];
         for (input, word, number) in table {
             let mut reader = Reader::new(input.as_bytes());
-            let answer = heard(reader.next_line());
-            assert_eq!(rt; answer.0, word, "{}", input);
-            assert_eq!(rt; answer.1, number, "{}", input);
+            assert_eq!(rt; heard(reader.next_line()), (word, number), "{input}");
         }
         let malformed = concat!(
             "\n",
@@ -109,9 +107,7 @@ mod tests {
         );
         let mut reader = Reader::new(malformed.as_bytes());
         for _ in 0..49 {
-            let answer = heard(reader.next_line());
-            assert_eq!(rt; answer.0, "refused");
-            assert_eq!(rt; answer.1, 14);
+            assert_eq!(rt; heard(reader.next_line()), ("refused", 14));
         }
         assert_eq!(rt; heard(reader.next_line()).0, "none");
     }
@@ -129,10 +125,11 @@ mod tests {
         ];
         for (input, word, length, limit) in table {
             let mut reader = Reader::new(input.as_bytes());
-            let answer = opened(reader.next_opening());
-            assert_eq!(rt; answer.0, word, "{}", input);
-            assert_eq!(rt; answer.1, length, "{}", input);
-            assert_eq!(rt; answer.2, limit, "{}", input);
+            assert_eq!(rt;
+                opened(reader.next_opening()),
+                (word, length, limit),
+                "{input}"
+            );
         }
         let malformed = concat!(
             "\n",
@@ -176,9 +173,7 @@ mod tests {
         );
         let mut reader = Reader::new(malformed.as_bytes());
         for _ in 0..38 {
-            let answer = opened(reader.next_opening());
-            assert_eq!(rt; answer.0, "refused");
-            assert_eq!(rt; answer.2, 14);
+            assert_eq!(rt; opened(reader.next_opening()), ("refused", 0, 14));
         }
         assert_eq!(rt; opened(reader.next_opening()).0, "none");
     }
@@ -206,9 +201,7 @@ mod tests {
         let first = opened(reader.next_opening());
         assert_eq!(rt; first.0, "even");
         for (word, number) in table {
-            let answer = heard(reader.next_line());
-            assert_eq!(rt; answer.0, word);
-            assert_eq!(rt; answer.1, number);
+            assert_eq!(rt; heard(reader.next_line()), (word, number));
         }
         let mut ended = Reader::new(b"drop\n");
         assert_eq!(rt; heard(ended.next_line()).0, "drop");

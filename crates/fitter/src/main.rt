@@ -26,5 +26,5 @@ fn main(rt: HostRuntime) -> io::Result<()> {
     let mut buffer = [0u8; MOST_INPUT];
     let read = fill(&mut rt.stdin(), &mut buffer)?;
     let mut printer = Printer { rt };
-    conduct(&buffer[0..read], &mut printer)
+    conduct(&buffer[..read], &mut printer)
 }

@@ -1,5 +1,5 @@
 //! The farthest corners of a hull whose lower half is one parabola and whose upper half another.
-use crate::task::Task;
+use crate::bench::Task;
 use hull::corner::Corner;
 use hull::table::{Hull, MOST_CORNERS};
 use refusal::Refusal;
@@ -13,6 +13,7 @@ pub struct Lens {
 }
 
 /// The corner at a place of the lens that has `half` corners on either parabola, counterclockwise.
+// Saturating, since a plain square would ask each caller for a bound on both numbers.
 fn corner_at(place: i32, half: i32) -> Corner {
     let lower = place < half;
     let along = if lower {
@@ -37,11 +38,11 @@ impl Lens {
     pub fn new(size: usize) -> Result<Lens, Refusal> {
         let size = size.min(MOST_CORNERS);
         let mut corners = [Corner { x: 0, y: 0 }; MOST_CORNERS];
-        for place in 0..size {
-            corners[place] = corner_at(place as i32, size as i32 / 2);
+        for (place, corner) in corners[..size].iter_mut().enumerate() {
+            *corner = corner_at(place as i32, size as i32 / 2);
         }
         let mut hull = Hull::new();
-        hull.set(&corners[0..size])?;
+        hull.set(&corners[..size])?;
         Ok(Lens { hull })
     }
 }

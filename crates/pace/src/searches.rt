@@ -1,5 +1,5 @@
 //! A search of a square sheet, each entry of which is the squared gap of its row and its column.
-use crate::task::Task;
+use crate::bench::Task;
 use refusal::Refusal;
 use search::search;
 use search::strip::Strip;

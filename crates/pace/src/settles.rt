@@ -1,23 +1,24 @@
 //! A settle of a lead whose loss rises by a little more at every reading, into up to eight spans.
-use crate::task::Task;
+use crate::bench::Task;
 use fit::fit::Fit;
 use refusal::Refusal;
 use rising::ceiling::Ceiling;
+use std::ops::Range;
 use weighing::weighing::Weighing;
 
 const LIMIT: usize = 8;
 
-/// `settled` readings that are settled already, and `more` that are not.
+/// A lead that holds so many readings, of which the first ones are settled already.
 #[derive(Drop)]
 pub struct Lead {
     pub settled: u32,
-    pub more: u32,
+    pub held: u32,
 }
 
-fn take_from(fit: &mut Fit<Ceiling>, first: u32, many: u32) -> Result<(), Refusal> {
-    for i in 0..many.min(512) {
-        let at = first.min(512) + i;
-        fit.take(at * at / 5)?;
+fn take_all(fit: &mut Fit<Ceiling>, places: Range<u32>) -> Result<(), Refusal> {
+    for place in places {
+        let place = place.min(512);
+        fit.take(place * place / 5)?;
     }
     Ok(())
 }
@@ -25,11 +26,11 @@ fn take_from(fit: &mut Fit<Ceiling>, first: u32, many: u32) -> Result<(), Refusa
 impl Task for Lead {
     fn run(&self, answers: &mut [usize], work: &mut [usize]) -> Result<u64, Refusal> {
         let mut fit = Fit::open(Ceiling::new(), LIMIT);
-        take_from(&mut fit, 0, self.settled)?;
+        take_all(&mut fit, 0..self.settled)?;
         if self.settled > 0 {
             fit.settle(answers, work)?;
         }
-        take_from(&mut fit, self.settled, self.more)?;
+        take_all(&mut fit, self.settled..self.held)?;
         fit.settle(answers, work)
     }
 }

@@ -1,5 +1,6 @@
 -- The text of each reply.
-use Rattle.std.specs.Prelude.{ℕ, List, [], ◌∷◌, ◌++◌, length, codes, decimal}
+use Rattle.std.specs.Prelude.{ℕ, List, ◌++◌, length, codes, decimal}
+use Rattle.std.specs.List.{flat_map}
 use Rattle.refusal.specs.Numbers.{number}
 use Rattle.reply.specs.declared.Kind as kinds
 use Rattle.reply.specs.declared.Kind.TheVariants.{Ceiling, Middle, Even}
@@ -13,8 +14,7 @@ kind_text (Even long) = codes "even " ++ decimal long
 
 -- each end, with a space before it
 abbrev pub ends_text : List ℕ → List ℕ
-ends_text [] = []
-ends_text (end ∷ ends) = codes " " ++ (decimal end ++ ends_text ends)
+ends_text = flat_map (λ end. codes " " ++ decimal end)
 
 abbrev pub reply_text : replies.Reply → List ℕ
 reply_text (Opened kind limit) = codes "open " ++ (kind_text kind ++ (codes " " ++ decimal limit))

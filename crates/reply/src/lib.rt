@@ -66,15 +66,10 @@ impl fmt::Display for Reply<'_> {
             Reply::Held(count) => write!(f, "held {count}"),
             Reply::Settled(count) => write!(f, "settled {count}"),
             Reply::Divided { weight, ends } => {
-                let spans = ends.len();
-                let list = Ends(ends);
-                write!(f, "spans {spans} weight {weight} ends{list}")
+                write!(f, "spans {} weight {weight} ends{}", ends.len(), Ends(ends))
             }
             Reply::Exact { spans, weight } => write!(f, "exact {spans} weight {weight}"),
-            Reply::Refused(why) => {
-                let number = why.number();
-                write!(f, "refused {number}")
-            }
+            Reply::Refused(why) => write!(f, "refused {}", why.number()),
         }
     }
 }

@@ -1,16 +1,11 @@
 -- How a session begins, from what reading its first line answers.
-use Rattle.std.proofs.Common.{◌≡◌, ℕ, List, IfOk, Some, Ok, Err, Result, sym, ap, ◌∙◌, subst}
+use Rattle.std.proofs.Common.{◌≡◌, ℕ, List, Some, Ok, Err, Result, sym, ap, ◌∙◌, subst}
 use Rattle.refusal.specs.declared.Refusal.{Refusal}
 use Rattle.console.specs.declared.command.Opening.{Opening}
 use Rattle.console.specs.Grammar.{Opens, Short, told_opening}
 use Rattle.console.specs.Lines.{Next, place_after}
 use Rattle.session.specs.Performed.{refused_line}
 use Rattle.session.specs.Conducts.{Conducted, SessionOver, not_opened, opened}
-
--- what holds where all was heard, holds in other words too
-pub made_as : {Done Fault : Type 0} {P Q : Type 0} (r : Result Done Fault) → (P → Q) → IfOk r (λ _. P) → IfOk r (λ _. Q)
-made_as (Ok x) so h = so h
-made_as (Err e) so h = tt
 
 -- a session over what a line says is one over the line
 pub over_said : {L : Type 0} (hears : L → List ℕ → L → Type 0) (input : List ℕ) (start : ℕ) (first last : L) {opening said : Opening} → opening ≡ said → SessionOver hears input start first last (told_opening said) → SessionOver hears input start first last (told_opening opening)

@@ -1,5 +1,5 @@
 -- How one line more lengthens the course of a session, from what reading it answers.
-use Rattle.std.proofs.Common.{◌≡◌, ℕ, List, IfOk, Some, Ok, Err, Result, sym, ap, ◌∙◌, subst}
+use Rattle.std.proofs.Common.{◌≡◌, ℕ, List, Some, Ok, Err, Result, sym, ap, ◌∙◌, subst}
 use Rattle.refusal.specs.declared.Refusal.{Refusal}
 use Rattle.weighing.specs.declared.weighing.Weighing.{Ghosts}
 use Rattle.console.specs.declared.command.Command.{Command}
@@ -7,10 +7,8 @@ use Rattle.console.specs.Grammar.{Says, Short, told}
 use Rattle.console.specs.Lines.{Next, place_after}
 use Rattle.fit.specs.declared.fit.Fit.{Fit}
 use Rattle.runs.specs.Runs.{Lists}
-use Rattle.fit.specs.Calls.{Opens}
-use Rattle.reply.specs.declared.Kind as kinds
-use Rattle.session.specs.Performed.{Performed, ByNumber, open_line, refused_line}
-use Rattle.session.specs.Courses.{Course, answered, not_understood, WholeCourse, WholeSession}
+use Rattle.session.specs.Performed.{Performed, refused_line}
+use Rattle.session.specs.Courses.{Course, answered, not_understood}
 
 module _ {W L : Type 0} (m : Ghosts W) (hears : L → List ℕ → L → Type 0) (input : List ℕ) (start : ℕ) (fit : Fit W) (first : L) where
   -- the line was read from the input of the session, and the reader moved past it
@@ -30,8 +28,3 @@ module _ {W L : Type 0} (m : Ghosts W) (hears : L → List ℕ → L → Type 0)
   next_refused {bytes} {text} {place} {place'} {f} {l} {l'} {line} {why} same past next is course tells heard =
       let here : Next told (Short Says) input place (Some (Err why)) = read_here place same is next in
       subst (λ x. Course m hears input start fit first x f l') (moved place same past) (not_understood why course here.0 here.1.1 here.1.0 (subst (λ x. hears l x l') tells heard))
-
--- a session is its opening and then its lines, where all were heard
-pub session_told : {W L Done Fault : Type 0} (m : Ghosts W) (hears : L → List ℕ → L → Type 0) (input : List ℕ) (start : ℕ) (kind : kinds.Kind) (w : W) (limit text : List ℕ) (fit fit' : Fit W) (first told last : L) (r : Result Done Fault) → ByNumber limit (λ k. Opens m w k fit) → text ≡ open_line kind fit.limit → hears first text told → IfOk r (λ _. WholeCourse m hears input start fit fit' told last) → IfOk r (λ _. WholeSession m hears input start kind w limit first last)
-session_told m hears input start kind w limit text fit fit' first told last (Ok x) opens tells heard lines = record { fit = fit; fit' = fit'; told = told; opens = opens; tells = subst (λ x. hears first x told) tells heard; lines = lines }
-session_told m hears input start kind w limit text fit fit' first told last (Err e) opens tells heard lines = tt

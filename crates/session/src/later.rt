@@ -5,12 +5,14 @@ ghost use Rattle.reply.specs.Replies.{reply_text};
 ghost use Rattle.session.specs.Performed.{Asks, asked, RoomFor, refused_line, answer_line, Performed};
 
 use console::{Command, value_of};
+use division::table::Told;
 use fit::fit::Fit;
 use refusal::Refusal;
 use reply::Reply;
 use runs::step::{Answer, Call, step};
 use weighing::weighing::Weighing;
 
+// Not a `From`: both types are of other crates, and neither of those knows the other.
 fn call_of(command: Command<'_>) -> Call
     ensures value { Asks (told command.entry) result }
 {
@@ -41,13 +43,10 @@ fn reply_to(call: Call, answer: Result<Answer, Refusal>, held: usize, ends: &[us
     match answer {
         Ok(Answer::Held(count)) => Reply::Held(count),
         Ok(Answer::Settled(_)) => Reply::Settled(held),
-        Ok(Answer::Divided(told)) => {
-            let spans = told.spans;
-            Reply::Divided {
-                weight: told.weight,
-                ends: &ends[0..spans],
-            }
-        }
+        Ok(Answer::Divided(Told { spans, weight })) => Reply::Divided {
+            weight,
+            ends: &ends[..spans],
+        },
         Ok(Answer::Weight(weight)) => Reply::Exact {
             spans: spans_asked(call),
             weight,

@@ -6,6 +6,7 @@ use reply::Reply;
 use std::io;
 
 /// Who hears the replies of a session, one for each line.
+// Not a closure: a trait's ghost member says by what relation a listener changes, over the listener as it is held.
 pub trait Listener {
     // of the listener before, the text of a reply that it heard, and the listener after
     ghost hears: { Self → List ℕ → Self → Type 0 };

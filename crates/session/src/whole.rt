@@ -15,9 +15,8 @@ use rising::ceiling::Ceiling;
 use rising::middle::Middle;
 use std::io;
 use std::io::Read;
+use weighing::verdict::MOST_READINGS;
 use weighing::weighing::Weighing;
-
-const MOST_READINGS: usize = 512;
 
 /// Four places of work for each reading.
 const WORK: usize = 4 * MOST_READINGS;
@@ -27,6 +26,7 @@ pub fn fill<R: Read>(from: &mut R, buffer: &mut [u8]) -> io::Result<usize>
     ensures bound { IfOk result (λ n. n ≤ length buffer.new) }
 {
     let mut at = 0;
+    // the library reads to the end only into a list on the heap, and exactly only what is there to the last byte
     while at < buffer.len() {
         let got = from.read(&mut buffer[at..])?;
         if got == 0 {
@@ -38,6 +38,7 @@ pub fn fill<R: Read>(from: &mut R, buffer: &mut [u8]) -> io::Result<usize>
 }
 
 /// Answers the lines that are left, each as a call of the fit, and lets the listener hear a reply to each.
+// `ends` and `work` stay apart: in a struct of two `&mut` each clause would also say that both keep their references.
 pub fn answer_lines<W: Weighing, L: Listener>(
     reader: &mut Reader<'_>,
     fit: &mut Fit<W>,
@@ -48,15 +49,10 @@ pub fn answer_lines<W: Weighing, L: Listener>(
     ensures heard { OnOk result (WholeCourse W.Weighing L.Listener.hears reader.old.input.now reader.old.place fit.old fit.new listener.old listener.new) }
 {
     while let Some(line) = reader.next_line() {
+        // each arm has its own `hear`: the borrow checker's proofs do not cover one reply of two lifetimes
         match line {
-            Ok(command) => {
-                let reply = perform(fit, command, ends, work);
-                listener.hear(reply)?;
-            }
-            Err(why) => {
-                let reply = refused(why);
-                listener.hear(reply)?;
-            }
+            Ok(command) => listener.hear(perform(fit, command, ends, work))?,
+            Err(why) => listener.hear(refused(why))?,
         }
     }
     Ok(())
@@ -73,8 +69,7 @@ pub fn talk<W: Weighing + Drop, L: Listener>(
     ensures heard { OnOk result (WholeSession W.Weighing L.Listener.hears reader.old.input.now reader.old.place kind weighing limit.now listener.old listener.new) }
 {
     let mut fit = open(weighing, limit);
-    let first = opened(kind, &fit);
-    listener.hear(first)?;
+    listener.hear(opened(kind, &fit))?;
     let mut ends = [0; MOST_READINGS];
     let mut work = [0; WORK];
     answer_lines(reader, &mut fit, &mut ends, &mut work, listener)
@@ -105,14 +100,9 @@ pub fn conduct<L: Listener>(input: &[u8], listener: &mut L) -> io::Result<()>
     ensures heard { OnOk result (Conducted L.Listener.hears input.now listener.old listener.new) }
 {
     let mut reader = Reader::new(input);
-    let Some(line) = reader.next_opening() else {
-        return Ok(());
-    };
-    match line {
-        Ok(opening) => begin(&mut reader, opening, listener),
-        Err(why) => {
-            let reply = refused(why);
-            listener.hear(reply)
-        }
+    match reader.next_opening() {
+        Some(Ok(opening)) => begin(&mut reader, opening, listener),
+        Some(Err(why)) => listener.hear(refused(why)),
+        None => Ok(()),
     }
 }

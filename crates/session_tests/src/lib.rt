@@ -26,13 +26,16 @@ mod tests {
         }
     }
 
-    fn answered(rt: &impl Abort, heap: Global, input: &str, expected: &str) -> Result<(), Fail> {
-        let mut transcript = Transcript {
-            heap,
-            text: String::new(heap),
-        };
-        conduct(input.as_bytes(), &mut transcript)?;
-        assert!(rt; transcript.text.as_str() == expected, "{}", input);
+    // Each session of a table, with the text that it must be answered.
+    fn answered(rt: &impl Abort, heap: Global, table: &[(&str, &str)]) -> Result<(), Fail> {
+        for (input, expected) in table {
+            let mut transcript = Transcript {
+                heap,
+                text: String::new(heap),
+            };
+            conduct(input.as_bytes(), &mut transcript)?;
+            assert_eq!(rt; transcript.text.as_str(), *expected, "{input}");
+        }
         Ok(())
     }
 
@@ -53,10 +56,7 @@ mod tests {
                 "open middle 5\nheld 1\nheld 2\nheld 3\nheld 4\nheld 5\nheld 6\nheld 7\nheld 8\nheld 9\nsettled 9\nrefused 6\nspans 1 weight 0 ends 9\nspans 1 weight 0 ends 9\nspans 1 weight 0 ends 9\nspans 1 weight 0 ends 9\nspans 1 weight 0 ends 9\nrefused 6\nrefused 6\nexact 1 weight 0\nexact 2 weight 0\nexact 3 weight 0\nexact 4 weight 0\nexact 5 weight 0\nrefused 6\n",
             ),
         ];
-        for (input, expected) in table {
-            answered(&rt, rt.alloc(), input, expected)?;
-        }
-        Ok(())
+        answered(&rt, rt.alloc(), &table)
     }
 
     // One reading, more spans than readings, and limits as they are taken.
@@ -92,10 +92,7 @@ mod tests {
                 "open ceiling 8\nheld 1\nrefused 3\nheld 2\nrefused 7\nsettled 2\nspans 2 weight 0 ends 1 2\nexact 1 weight 3\nheld 0\n",
             ),
         ];
-        for (input, expected) in table {
-            answered(&rt, rt.alloc(), input, expected)?;
-        }
-        Ok(())
+        answered(&rt, rt.alloc(), &table)
     }
 
     // Withdrawals down into the settled part and back up, with refused calls between.
@@ -119,10 +116,7 @@ mod tests {
                 "open ceiling 2\nrefused 5\nrefused 5\nrefused 5\nrefused 5\nrefused 5\nrefused 5\nrefused 5\nrefused 5\nrefused 2\nheld 1\nrefused 3\nrefused 2\nrefused 7\nrefused 7\nrefused 7\nrefused 7\nrefused 7\nrefused 7\nsettled 1\nrefused 6\nrefused 6\nrefused 6\nrefused 6\nrefused 6\nspans 1 weight 0 ends 1\nheld 0\nrefused 5\nrefused 5\nrefused 5\nrefused 5\n",
             ),
         ];
-        for (input, expected) in table {
-            answered(&rt, rt.alloc(), input, expected)?;
-        }
-        Ok(())
+        answered(&rt, rt.alloc(), &table)
     }
 
     // An even weighing that cannot be.
@@ -138,10 +132,7 @@ mod tests {
                 "open even 513 1\nrefused 4\nrefused 5\nheld 0\nrefused 5\nrefused 5\nrefused 5\n",
             ),
         ];
-        for (input, expected) in table {
-            answered(&rt, rt.alloc(), input, expected)?;
-        }
-        Ok(())
+        answered(&rt, rt.alloc(), &table)
     }
 
     // Sessions without a last new line, without lines, and with a first line that opens nothing.
@@ -168,9 +159,6 @@ mod tests {
                 "refused 14\n",
             ),
         ];
-        for (input, expected) in table {
-            answered(&rt, rt.alloc(), input, expected)?;
-        }
-        Ok(())
+        answered(&rt, rt.alloc(), &table)
     }
 }

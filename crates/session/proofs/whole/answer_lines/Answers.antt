@@ -10,14 +10,14 @@ pub loop-line-preserved-in-Continue-1 : goal.loop-line-preserved-in-Continue-1
 loop-line-preserved-in-Continue-1 g c =
     let same = c.loop-line.invariant.0 in
     let read = c.in-Some.ensures in (
-      read.input ∙ same,
-      next_answered g.W.Weighing g.L.Listener.hears _ _ _ _ same read.place read.answer c.in-Ok.is c.loop-line.invariant.1 c.perform-reply.ensures.answer c.in_ok-hear-in-Ok.ensures.heard,
+      read.passed.input ∙ same,
+      next_answered g.W.Weighing g.L.Listener.hears _ _ _ _ same read.passed.place read.answer c.in-Ok.is c.loop-line.invariant.1 c.perform.ensures.answer c.in_ok-hear-in-Ok.ensures.heard,
     )
 
 pub loop-line-preserved : goal.loop-line-preserved
 loop-line-preserved g c =
     let same = c.loop-line.invariant.0 in
     let read = c.in-Some.ensures in (
-      read.input ∙ same,
-      next_refused g.W.Weighing g.L.Listener.hears _ _ _ _ same read.place read.answer c.in-Err.is c.loop-line.invariant.1 c.refused-reply.ensures.value c.in_ok-hear-in-Err.ensures.heard,
+      read.passed.input ∙ same,
+      next_refused g.W.Weighing g.L.Listener.hears _ _ _ _ same read.passed.place read.answer c.in-Err.is c.loop-line.invariant.1 c.refused.ensures.value c.in_ok-hear-in-Err.ensures.heard,
     )

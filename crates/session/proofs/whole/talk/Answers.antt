@@ -1,8 +1,11 @@
-use Rattle.session.proofs.Courses.{session_told}
+-- A session is its opening and then its lines, where all were heard.
+use Rattle.std.proofs.Common.{subst}
+use Rattle.std.proofs.lemmas.Result.{on_ok_weaker}
 use Rattle.session.proofs.whole.talk.Goals as goal
 
 pub returns : goal.returns
 returns g c =
+    let tells = subst (λ text. g.L.Listener.hears c.args.listener.now text c.hear.new.self) c.opened.ensures.value c.in_ok-hear.ensures.heard in
     record {
-      heard = session_told g.W.Weighing g.L.Listener.hears c.args.reader.now.input.now c.args.reader.now.place c.args.kind c.args.weighing c.args.limit.now _ _ _ c.args.listener.now _ _ c.answer_lines.result c.open-fit.ensures.value c.opened-first.ensures.value c.in_ok-hear.ensures.heard c.answer_lines.ensures.heard;
+      heard = on_ok_weaker c.answer_lines.result (λ lines. record { fit = c.open-fit.result; fit' = c.answer_lines.new.fit; told = c.hear.new.self; opens = c.open-fit.ensures.value; tells = tells; lines = lines }) c.answer_lines.ensures.heard;
     }
