@@ -1,13 +1,14 @@
 //! The charge: a weighing whose every span costs a fixed sum more than in the weighing below.
 #![tactic(auto)]
 
-ghost use Rattle.std.specs.Prelude.{◌≡◌, true, false, Ok, Err};
+ghost use Rattle.std.specs.Prelude.{◌≡◌};
 ghost use Rattle.charge.specs.Charges.{charge_fits, charged, StillCharged};
 ghost use Rattle.weighing.specs.Did.{TakeDid, DropDid, WipeDid, WeighDid, LevelsKept};
 ghost use Rattle.std.proofs.Common.{arith, rules};
 ghost use Rattle.charge.specs.ChargeWeighingLemmas.{held_below};
 
 use refusal::Refusal;
+use weighing::rule::require;
 use weighing::weighing::Weighing;
 
 const GREATEST_CHARGE: u64 = 0x1000_0000;
@@ -34,15 +35,6 @@ impl<W: Weighing> Charge<W> {
         ensures value { result ≡ charge_fits W.Weighing self.now }
     {
         self.charge <= GREATEST_CHARGE && self.inner.top() + self.charge <= GREATEST_TOP
-    }
-
-    fn fitting_or(&self, why: Refusal) -> Result<(), Refusal>
-        ensures value { elim result [
-          | Ok _ ↦ charge_fits W.Weighing self.now ≡ true
-          | Err other ↦ (charge_fits W.Weighing self.now ≡ false) × (other ≡ why)
-        ] }
-    {
-        self.fits().then_some(()).ok_or(why)
     }
 }
 
@@ -90,7 +82,7 @@ impl<W: Weighing> Weighing for Charge<W> {
         ensures levels { LevelsKept (charged W.Weighing) self.old self.new }
         ensures same { StillCharged W.Weighing self.old self.new }
     {
-        self.fitting_or(Refusal::Misfit)?;
+        require(self.fits(), Refusal::Misfit)?;
         self.inner.take(reading)
     }
 
@@ -99,7 +91,7 @@ impl<W: Weighing> Weighing for Charge<W> {
         ensures levels { LevelsKept (charged W.Weighing) self.old self.new }
         ensures same { StillCharged W.Weighing self.old self.new }
     {
-        self.fitting_or(Refusal::NothingHeld)?;
+        require(self.fits(), Refusal::NothingHeld)?;
         self.inner.drop_last()
     }
 
@@ -116,13 +108,13 @@ impl<W: Weighing> Weighing for Charge<W> {
         ensures levels { LevelsKept (charged W.Weighing) self.old self.new }
         ensures same { StillCharged W.Weighing self.old self.new }
     {
-        self.fitting_or(Refusal::NoSuchPlace)?;
+        require(self.fits(), Refusal::NoSuchPlace)?;
         let weight = self.inner.weigh(a, b)?;
         Ok(weight + self.charge)
     }
 
     fn level(&self, a: usize, b: usize) -> Result<u32, Refusal> {
-        self.fitting_or(Refusal::NoSuchPlace)?;
+        require(self.fits(), Refusal::NoSuchPlace)?;
         self.inner.level(a, b)
     }
 

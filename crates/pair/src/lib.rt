@@ -1,13 +1,14 @@
 //! The pair: two weighings of the same readings as one, in which the first counts before the second.
 #![tactic(auto)]
 
-ghost use Rattle.std.specs.Prelude.{◌≡◌, true, false, Ok, Err};
+ghost use Rattle.std.specs.Prelude.{◌≡◌};
 ghost use Rattle.weighing.specs.Did.{TakeDid, DropDid, WipeDid, WeighDid, LevelsKept};
 ghost use Rattle.pair.specs.Pairs.{pair_fits, paired, StillPaired, BothTake, BothDrop, BothWipe, BothWeigh};
 ghost use Rattle.pair.specs.PairsLemmas.{held_on_both};
 ghost use Rattle.std.proofs.Common.{arith, rules};
 
 use refusal::Refusal;
+use weighing::rule::require;
 use weighing::verdict::heed;
 use weighing::weighing::Weighing;
 
@@ -41,15 +42,6 @@ impl<F: Weighing, S: Weighing> Pair<F, S> {
         self.first.top() <= FIRST_TOP
             && self.second.top() <= SECOND_TOP
             && self.first.held() == self.second.held()
-    }
-
-    fn fitting_or(&self, why: Refusal) -> Result<(), Refusal>
-        ensures value { elim result [
-          | Ok _ ↦ pair_fits F.Weighing S.Weighing self.now ≡ true
-          | Err other ↦ (pair_fits F.Weighing S.Weighing self.now ≡ false) × (other ≡ why)
-        ] }
-    {
-        self.fits().then_some(()).ok_or(why)
     }
 }
 
@@ -112,7 +104,7 @@ impl<F: Weighing, S: Weighing> Weighing for Pair<F, S> {
         ensures same { StillPaired F.Weighing S.Weighing self.old self.new }
         ensures both { BothDrop F.Weighing S.Weighing self.old self.new result }
     {
-        self.fitting_or(Refusal::NothingHeld)?;
+        require(self.fits(), Refusal::NothingHeld)?;
         self.first.drop_last()?;
         self.second.drop_last()
     }
@@ -137,14 +129,14 @@ impl<F: Weighing, S: Weighing> Weighing for Pair<F, S> {
         ensures same { StillPaired F.Weighing S.Weighing self.old self.new }
         ensures both { BothWeigh F.Weighing S.Weighing self.old self.new a b result }
     {
-        self.fitting_or(Refusal::NoSuchPlace)?;
+        require(self.fits(), Refusal::NoSuchPlace)?;
         let first = self.first.weigh(a, b)?;
         let second = self.second.weigh(a, b)?;
         Ok(first * UNIT + second)
     }
 
     fn level(&self, a: usize, b: usize) -> Result<u32, Refusal> {
-        self.fitting_or(Refusal::NoSuchPlace)?;
+        require(self.fits(), Refusal::NoSuchPlace)?;
         self.first.level(a, b)
     }
 

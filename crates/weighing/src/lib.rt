@@ -1,7 +1,8 @@
 //! The interface of a weighing, what a span of readings costs by any measure that keeps it, and what makers of weighings
-//! share: the verdict on a next reading and the test of a span.
+//! share: the verdict on a next reading, the test of a span, and rules with their refusals.
 #![tactic(auto)]
 
+pub mod rule;
 pub mod span;
 pub mod verdict;
 pub mod weighing;
