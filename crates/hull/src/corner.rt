@@ -1,5 +1,5 @@
 //! A corner, and what two or three corners make: a squared distance and a turn.
-ghost use Rattle.std.specs.Prelude.{◌≡◌, ◌<◌, ◌^◌, true, ◌-ℤ◌, pos, int_lt, unsigned_abs};
+ghost use Rattle.std.specs.Prelude.{◌≡◌, ◌<◌, ◌^◌, true, ◌-ℤ◌, unsigned_abs};
 ghost use Rattle.hull.specs.Plane.{Near, Left, turn, distance};
 
 /// The farthest that a coordinate may lie from 0.

@@ -1,5 +1,5 @@
 //! The farthest corner from each corner of a hull, by a search of its sheet.
-ghost use Rattle.std.specs.Prelude.{◌≡◌, ℕ, ◌+◌, ◌%◌, ◌<◌, ◌≤◌, length, Ok, Err, slice_index};
+ghost use Rattle.std.specs.Prelude.{◌≡◌, ℕ, ◌+◌, ◌%◌, ◌<◌, length, Ok, Err, slice_index};
 ghost use Rattle.hull.specs.Hulls.{corners_of};
 ghost use Rattle.hull.specs.Farthest.{FarthestDid};
 

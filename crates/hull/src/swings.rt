@@ -1,5 +1,5 @@
 //! The sheet of a hull: in row i the squared distances from corner i, once around.
-ghost use Rattle.std.specs.Prelude.{◌≡◌, ℕ, ◌+◌, ◌-◌, ◌*◌, ◌^◌, ◌<◌, ◌≤◌, min, true, length, int_lt};
+ghost use Rattle.std.specs.Prelude.{◌≡◌, ◌-◌, ◌*◌, ◌<◌, length, int_lt};
 ghost use Rattle.hull.specs.declared.reach.Reach.{Reach};
 ghost use Rattle.hull.specs.Hulls.{corners_of, Numbered};
 ghost use Rattle.hull.specs.Reaches.{reach, ReachesWithin};
