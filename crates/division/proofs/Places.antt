@@ -1,5 +1,5 @@
 -- A trail written into a list from the back.
-use Rattle.std.proofs.Common.{◌≡◌, ℕ, zero, suc, ◌-◌, ◌<◌, ◌≤◌, List, [], ◌∷◌, ◌++◌, length, take, drop, set, refl, ◌∙◌, append_assoc, append-nil, arith, length-append}
+use Rattle.std.proofs.Common.{◌≡◌, ℕ, zero, suc, ◌-◌, ◌<◌, ◌≤◌, List, [], ◌∷◌, ◌++◌, length, take, drop, set, refl, ◌∙◌, append_assoc, arith, length-append}
 use Rattle.division.specs.Trails.{trail}
 
 pub trail_length : (cut : ℕ → ℕ → ℕ) (k j : ℕ) → length (trail cut k j) ≡ k

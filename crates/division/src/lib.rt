@@ -11,5 +11,4 @@ pub mod table;
 pub fn best_stands()
     ensures one { BestIsOne }
     ensures there { BestIsThere }
-{
-}
+{}

@@ -1,5 +1,5 @@
 -- Each turn writes one end more of the trail.
-use Rattle.std.proofs.Common.{◌≡◌, ℕ, ◌+◌, ◌-◌, refl, ap, ◌∙◌, arith, drop-set-lt}
+use Rattle.std.proofs.Common.{◌≡◌, ℕ, ◌+◌, ◌-◌, ap, ◌∙◌, arith, drop-set-lt}
 use Rattle.division.specs.Tables.{cut_at}
 use Rattle.division.specs.Trails.{trail}
 use Rattle.division.proofs.Places.{follow_more}
