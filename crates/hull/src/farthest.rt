@@ -20,11 +20,11 @@ fn bring_round(columns: &mut [usize])
     }
 }
 
-impl Swings<'_> {
+impl Swings {
     /// Writes the farthest corner from each corner into the answers, at a tie the first met
     /// counterclockwise, and tells how far the ledger rose.
     pub fn farthest(&mut self, answers: &mut [usize], work: &mut [usize]) -> Result<u64, Refusal>
-        ensures answer { FarthestDid (corners_of self.old.hull.now) answers.old answers.new work.old work.new result }
+        ensures answer { FarthestDid (corners_of self.old.hull) answers.old answers.new work.old work.new result }
         ensures after { elim result [
           | Ok told ↦ (self.new.hull ≡ self.old.hull) × (self.new.ledger.told ≡ self.old.ledger.told + told)
           | Err why ↦ self.new ≡ self.old

@@ -13,9 +13,10 @@ use refusal::Refusal;
 use search::sheet::Sheet;
 
 /// A hull's sheet: the hull, and the ledger of how many entries were read.
+// It owns its hull: one that borrows it could not outlive it, nor stand by while the hull is set anew.
 #[derive(Clone, Copy)]
-pub struct Swings<'a> {
-    pub(crate) hull: &'a Hull,
+pub struct Swings {
+    pub(crate) hull: Hull,
     pub(crate) ledger: Counter,
 }
 
@@ -36,29 +37,29 @@ impl Hull {
     }
 }
 
-impl<'a> Swings<'a> {
+impl Swings {
     /// The sheet of a hull, no entry of it read yet.
-    pub fn over(hull: &'a Hull) -> Swings<'a>
-        ensures value { (result.hull.now ≡ hull.now) × (result.ledger.told ≡ 0) }
+    pub fn over(hull: &Hull) -> Swings
+        ensures value { (result.hull ≡ hull.now) × (result.ledger.told ≡ 0) }
         ensures within { ReachesWithin (corners_of hull.now) }
     {
         Swings {
-            hull,
+            hull: *hull,
             ledger: Counter::new(),
         }
     }
 }
 
-impl Sheet for Swings<'_> {
+impl Sheet for Swings {
     type Entry = Reach;
 
     ghost before = { λ a b. int_lt b.value a.value };
 
-    ghost rows = { λ s. length (corners_of s.hull.now) };
+    ghost rows = { λ s. length (corners_of s.hull) };
 
-    ghost columns = { λ s. 2 * length (corners_of s.hull.now) - 1 };
+    ghost columns = { λ s. 2 * length (corners_of s.hull) - 1 };
 
-    ghost at = { λ s i j. record { value = reach (corners_of s.hull.now) i j } };
+    ghost at = { λ s i j. record { value = reach (corners_of s.hull) i j } };
 
     ghost ledger = { λ s. s.ledger.told };
 
@@ -81,9 +82,9 @@ impl Sheet for Swings<'_> {
     ghost onward = { Prim.search rules };
 
     ghost monotone = { λ s i j a b ij jn ab bn e.
-        let cs = corners_of s.hull.now in
+        let cs = corners_of s.hull in
         below_true (reach cs j a) (reach cs j b)
-        (reach_monotone cs s.hull.now.enough s.hull.now.left i j a b ij jn ab (true_below (reach cs i a) (reach cs i b) e)) };
+        (reach_monotone cs s.hull.enough s.hull.left i j a b ij jn ab (true_below (reach cs i a) (reach cs i b) e)) };
 
     fn precedes(a: &Reach, b: &Reach) -> bool
         ensures value { result ≡ int_lt b.now.value a.now.value }

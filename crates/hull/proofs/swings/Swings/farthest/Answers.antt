@@ -6,7 +6,7 @@ use Rattle.hull.proofs.swings.Swings.farthest.Goals as goal
 
 pub returns : goal.returns
 returns c =
-    let hull = c.args.self.now.hull.now in
+    let hull = c.args.self.now.hull in
     let cs = corners_of hull in
     let long = c.in_ok-told.ensures.answer.1 in
     let searched = c.in_ok-told.ensures.answer.2 in
