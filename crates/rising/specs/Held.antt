@@ -1,14 +1,19 @@
 -- The readings that a weighing holds.
-use Rattle.std.specs.Prelude.{ℕ, List, slice_index}
+use Rattle.std.specs.Prelude.{ℕ, List, slice_index, take}
 use Rattle.weighing.specs.declared.weighing.Weighing.{Ghosts}
+use Rattle.rising.specs.declared.readings.Entry.{Entry}
 use Rattle.rising.specs.declared.readings.Readings.{Readings}
 use Rattle.rising.specs.declared.row.Row.{Row}
 use Rattle.rising.specs.Entries.{taken}
 use Rattle.rising.specs.Rows.{rising_meaning}
 
+-- the entries of the readings held, first to last
+abbrev pub entries_of : Readings → List Entry
+entries_of r = take r.n r.entries
+
 -- the list of readings held, first to last
 abbrev pub readings : Readings → List ℕ
-readings r = taken r.entries.items
+readings r = taken (entries_of r)
 
 module _ {H : Type 0} where
   -- the list of readings that a row holds

@@ -1,18 +1,21 @@
 -- The list of readings held, as the entries have it.
-use Rattle.std.specs.Prelude.{◌≡◌, ℕ, ◌+◌, ◌*◌, ◌≤◌, List, [], ◌∷◌, ◌++◌, length, take, slice_index}
-use Rattle.std.proofs.Common.{sym, arith}
-use Rattle.std.proofs.lemmas.List.{length-map, map-append, take-map}
+use Rattle.std.specs.Prelude.{◌≡◌, ℕ, ◌+◌, ◌*◌, ◌≤◌, List, [], ◌∷◌, ◌++◌, length, take, slice_index, slice_set}
+use Rattle.std.proofs.Common.{sym, ap, ◌∙◌, arith}
+use Rattle.std.proofs.lemmas.List.{length-map, map-append, take-map, length-take-le, take-take, take_more_set}
 use Rattle.rising.specs.declared.readings.Entry.{Entry}
 use Rattle.rising.specs.declared.readings.Readings.{Readings}
 use Rattle.rising.specs.Entries.{taken, sums}
-use Rattle.rising.specs.Held.{readings}
+use Rattle.rising.specs.Held.{entries_of, readings}
 use Rattle.rising.specs.Rows.{Small, Rising, Summed, rising_verdict}
 use Rattle.rising.specs.Sums.{sum_first}
 use Rattle.rising.specs.SumsLemmas.{total_bounded}
 use Rattle.rising.specs.RowsLemmas.{allowed, small_push, rising_push, summed_push, small_front, rising_front, summed_front}
 
+pub held_many : (r : Readings) → length (readings r) ≡ r.n
+held_many r = omega (arith, length-map (entries_of r) (λ e. e.reading), length-take-le r.n r.entries (omega (arith, r.few, r.room)))
+
 pub held_few : (r : Readings) → length (readings r) ≤ 512
-held_few r = omega (arith, length-map r.entries.items (λ e. e.reading), r.few)
+held_few r = omega (arith, held_many r, r.few)
 
 pub held_small : (r : Readings) → Small (readings r)
 held_small r = r.small
@@ -28,20 +31,37 @@ abbrev Kept : List Entry → Type 0
 Kept entries = Small (taken entries) × Rising (taken entries) × Summed (taken entries) (0 ∷ sums entries)
 
 module _ (r : Readings) where
-  -- what holds of the entries holds of them with an allowed one behind them
-  pub push_kept : (reading sum : ℕ) (entries : List Entry) → entries ≡ r.entries.items ++ record { reading = reading; sum = sum } ∷ [] →
-      rising_verdict (readings r) reading ≡ 0 → sum ≡ sum_first (readings r) (length (readings r)) + reading → Kept entries
-  push_kept reading sum entries is told total =
-      let x = readings r in
-      let last : List Entry = record { reading = reading; sum = sum } ∷ [] in
-      let ok = allowed x reading (held_few r) told in
-      let rooms : length (sums r.entries.items) + 1 ≡ length x + 1 = omega (arith, length-map r.entries.items (λ e. e.reading), length-map r.entries.items (λ e. e.sum)) in
-      rw (is, map-append (λ e. e.reading) r.entries.items last, map-append (λ e. e.sum) r.entries.items last)
-      (small_push x reading r.small ok.1, rising_push x reading r.rising ok.2, summed_push x reading (0 ∷ sums r.entries.items) sum (omega arith) total r.summed)
+  module _ (reading sum : ℕ) (told : rising_verdict (readings r) reading ≡ 0) where
+    -- the entries once one more is written
+    abbrev more : List Entry
+    more = take (r.n + 1) (slice_set r.entries r.n (record { reading = reading; sum = sum }))
 
-  -- and of the first k of them
-  pub front_kept : (k : ℕ) (entries : List Entry) → entries ≡ take k r.entries.items → k ≤ length (readings r) → Kept entries
-  front_kept k entries is within =
-      let x = readings r in
-      rw (is, sym (take-map (λ e. e.reading) k r.entries.items), sym (take-map (λ e. e.sum) k r.entries.items))
-      (small_front x k within r.small, rising_front x k within r.rising, summed_front x k within (0 ∷ sums r.entries.items) r.summed)
+    more_is : more ≡ entries_of r ++ record { reading = reading; sum = sum } ∷ []
+    more_is =
+        let ok = allowed (readings r) reading (held_few r) told in
+        take_more_set r.entries r.n (record { reading = reading; sum = sum }) (omega (arith, r.room, held_many r))
+
+    pub pushed : taken more ≡ readings r ++ reading ∷ []
+    pushed = rw more_is (map-append (λ e. e.reading) (entries_of r) (record { reading = reading; sum = sum } ∷ []))
+
+    -- what holds of the entries holds of them with an allowed one behind them
+    pub push_kept : sum ≡ sum_first (readings r) (length (readings r)) + reading → Kept more
+    push_kept total =
+        let x = readings r in
+        let last : List Entry = record { reading = reading; sum = sum } ∷ [] in
+        let ok = allowed x reading (held_few r) told in
+        let rooms : length (sums (entries_of r)) + 1 ≡ length x + 1 = omega (arith, length-map (entries_of r) (λ e. e.reading), length-map (entries_of r) (λ e. e.sum)) in
+        rw (more_is, map-append (λ e. e.reading) (entries_of r) last, map-append (λ e. e.sum) (entries_of r) last)
+        (small_push x reading r.small ok.1, rising_push x reading r.rising ok.2, summed_push x reading (0 ∷ sums (entries_of r)) sum (omega arith) total r.summed)
+
+  module _ (k : ℕ) (within : k ≤ r.n) where
+    pub front : taken (take k r.entries) ≡ take k (readings r)
+    front = ap taken (sym (take-take k r.n r.entries within)) ∙ sym (take-map (λ e. e.reading) k (entries_of r))
+
+    -- and of the first k of them
+    pub front_kept : Kept (take k r.entries)
+    front_kept =
+        let x = readings r in
+        let fewer : k ≤ length x = omega (arith, held_many r) in
+        rw (sym (take-take k r.n r.entries within), sym (take-map (λ e. e.reading) k (entries_of r)), sym (take-map (λ e. e.sum) k (entries_of r)))
+        (small_front x k fewer r.small, rising_front x k fewer r.rising, summed_front x k fewer (0 ∷ sums (entries_of r)) r.summed)

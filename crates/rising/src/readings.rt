@@ -1,10 +1,8 @@
 //! Rising readings with their running sums, as a row of them is held.
-ghost use Rattle.std.specs.Prelude.{◌≤◌, ◌∷◌};
-ghost use Rattle.arrayvec.specs.ArrayVec.{array_vec_len};
+ghost use Rattle.std.specs.Prelude.{◌≡◌, ◌≤◌, ◌∷◌, length, take};
 ghost use Rattle.rising.specs.Entries.{taken, sums};
 ghost use Rattle.rising.specs.Rows.{Small, Rising, Summed};
 
-use arrayvec::ArrayVec;
 use weighing::verdict::{GREATEST_READING, MOST_READINGS};
 
 mod calls;
@@ -19,12 +17,15 @@ struct Entry {
     sum: u32,
 }
 
-/// Up to 512 readings, none above 65,535 and none below the one before it.
+/// Up to 512 readings, the first `n` entries: none above 65,535 and none below the one before it.
+// An array with its length beside it: to wipe an `ArrayVec` takes a write for each reading, and a wipe is to cost no more than a take.
 #[derive(Drop)]
 pub struct Readings {
-    entries: ArrayVec<Entry, MOST_READINGS>,
-    ghost few: { array_vec_len entries ≤ 512 },
-    ghost small: { Small (taken entries.items) },
-    ghost rising: { Rising (taken entries.items) },
-    ghost summed: { Summed (taken entries.items) (0 ∷ sums entries.items) },
+    entries: [Entry; MOST_READINGS],
+    n: usize,
+    ghost room: { length entries ≡ 512 },
+    ghost few: { n ≤ 512 },
+    ghost small: { Small (taken (take n entries)) },
+    ghost rising: { Rising (taken (take n entries)) },
+    ghost summed: { Summed (taken (take n entries)) (0 ∷ sums (take n entries)) },
 }

@@ -1,21 +1,21 @@
 //! What can be done with readings: one added at the end, the last one dropped, and sums read off.
 ghost use Rattle.std.specs.Prelude.{◌≡◌, ◌+◌, ◌-◌, ◌<◌, ◌≤◌, [], length, slice_index};
 ghost use Rattle.weighing.specs.Calls.{told};
-ghost use Rattle.rising.specs.Held.{readings};
+ghost use Rattle.rising.specs.Held.{entries_of, readings};
 ghost use Rattle.rising.specs.Rows.{rising_verdict, last, Pushes, Pops};
 ghost use Rattle.rising.specs.Sums.{sum_first};
 
 use crate::readings::{Entry, Readings};
-use arrayvec::ArrayVec;
 use refusal::Refusal;
-use weighing::verdict::{heed, verdict_on};
+use weighing::verdict::{MOST_READINGS, heed, verdict_on};
 
 impl Readings {
     pub(crate) fn new() -> Readings
         ensures value { readings result ≡ [] }
     {
         Readings {
-            entries: ArrayVec::new(),
+            entries: [Entry { reading: 0, sum: 0 }; MOST_READINGS],
+            n: 0,
         }
     }
 
@@ -23,13 +23,19 @@ impl Readings {
         ensures value { result ≡ length (readings self.now) }
         ensures few { result ≤ 512 }
     {
-        self.entries.len()
+        self.n
+    }
+
+    fn entries(&self) -> &[Entry]
+        ensures value { result.now ≡ entries_of self.now }
+    {
+        &self.entries[..self.n]
     }
 
     fn last(&self) -> u32
         ensures value { result ≡ last (readings self.now) }
     {
-        self.entries.last().map_or(0, |entry| entry.reading)
+        self.entries().last().map_or(0, |entry| entry.reading)
     }
 
     pub(crate) fn verdict(&self, reading: u32) -> Option<Refusal>
@@ -43,28 +49,29 @@ impl Readings {
     {
         heed(self.verdict(reading))?;
         let sum = self.sum_first(self.held()) + reading;
-        self.entries.push(Entry { reading, sum });
-        Ok(self.held())
+        self.entries[self.n] = Entry { reading, sum };
+        self.n += 1;
+        Ok(self.n)
     }
 
     pub(crate) fn drop_last(&mut self) -> Result<usize, Refusal>
         ensures answer { Pops readings self.old self.new result }
     {
-        self.entries.pop().ok_or(Refusal::NothingHeld)?;
-        Ok(self.held())
+        self.n = self.n.checked_sub(1).ok_or(Refusal::NothingHeld)?;
+        Ok(self.n)
     }
 
     pub(crate) fn wipe(&mut self)
         ensures after { readings self.new ≡ [] }
     {
-        self.entries.clear();
+        self.n = 0;
     }
 
     pub(crate) fn at(&self, i: usize) -> u32
         requires { i < length (readings self.now) }
         ensures value { result ≡ slice_index (readings self.now) i }
     {
-        self.entries[i].reading
+        self.entries()[i].reading
     }
 
     /// The sum of the first `k` readings.
@@ -72,6 +79,6 @@ impl Readings {
         requires { k ≤ length (readings self.now) }
         ensures value { result ≡ sum_first (readings self.now) k }
     {
-        self.entries[..k].last().map_or(0, |entry| entry.sum)
+        self.entries()[..k].last().map_or(0, |entry| entry.sum)
     }
 }

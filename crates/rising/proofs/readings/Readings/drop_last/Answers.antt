@@ -1,13 +1,20 @@
 -- Without the last entry, the rest stand as they stood.
-use Rattle.std.proofs.Common.{◌-◌, length, ap, arith}
-use Rattle.std.proofs.lemmas.List.{length-map, length-take-le}
-use Rattle.rising.specs.HeldLemmas.{front_kept}
+use Rattle.std.proofs.Common.{◌≡◌, ◌-◌, ◌≤◌, take, ap, ◌∙◌, arith, rules}
+use Rattle.rising.specs.Held.{readings}
+use Rattle.rising.specs.HeldLemmas.{held_many, front, front_kept}
 use Rattle.rising.proofs.readings.Readings.drop_last.Goals as goal
 
 pub invariant_of-self : goal.invariant_of-self
 invariant_of-self c =
     let r = c.args.self.now in
-    let long = length-map r.entries.items (λ e. e.reading) in
-    let kept = front_kept r (length r.entries.items - 1) _ c.pop.ensures.rest (omega arith) in
-    let fewer = length-take-le (length r.entries.items - 1) r.entries.items (omega arith) in
-    record { few = omega (arith, ap length c.pop.ensures.rest); small = kept.0; rising = kept.1; summed = kept.2 }
+    let fewer : c.in_ok-self.field-0 ≤ r.n = search rules in
+    let kept = front_kept r c.in_ok-self.field-0 fewer in
+    record { room = r.room; few = omega (arith, r.few); small = kept.0; rising = kept.1; summed = kept.2 }
+
+pub returns : goal.returns
+returns c =
+    let r = c.args.self.now in
+    let many = held_many r in
+    let one_less : c.in_ok-self.field-0 ≡ r.n - 1 = search rules in
+    let some : 1 ≤ r.n = search rules in
+    record { answer = (omega arith, omega arith, front r c.in_ok-self.field-0 (omega arith) ∙ ap (λ k. take k (readings r)) (omega arith)) }

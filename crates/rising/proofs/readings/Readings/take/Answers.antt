@@ -1,10 +1,9 @@
 -- A reading that the verdict allows finds room, and what held of the entries holds with it.
-use Rattle.std.proofs.Common.{◌≡◌, ◌+◌, length, arith, rules}
-use Rattle.std.proofs.lemmas.List.{length-map}
+use Rattle.std.proofs.Common.{◌≡◌, ◌+◌, ◌∙◌, length, length-set, arith, rules}
 use Rattle.rising.specs.Held.{readings}
 use Rattle.rising.specs.Rows.{rising_verdict}
 use Rattle.rising.specs.Sums.{sum_first}
-use Rattle.rising.specs.HeldLemmas.{held_few, sums_small, push_kept}
+use Rattle.rising.specs.HeldLemmas.{held_many, held_few, sums_small, pushed, push_kept}
 use Rattle.rising.specs.RowsLemmas.{allowed}
 use Rattle.rising.proofs.readings.Readings.take.Goals as goal
 
@@ -22,7 +21,14 @@ invariant_of-self c =
     let r = c.args.self.now in
     let told : rising_verdict (readings r) c.args.reading ≡ 0 = search rules in
     let ok = allowed (readings r) c.args.reading (held_few r) told in
+    let many = held_many r in
     let total : c.sum_first.result ≡ sum_first (readings r) (length (readings r)) = cc in
-    let kept = push_kept r c.args.reading (c.sum_first.result + c.args.reading) _ c.push.ensures.items told (omega arith) in
-    let long = length-map r.entries.items (λ e. e.reading) in
-    record { few = omega arith; small = kept.0; rising = kept.1; summed = kept.2 }
+    let kept = push_kept r c.args.reading (c.sum_first.result + c.args.reading) told (omega arith) in
+    record { room = length-set r.entries _ _ ∙ r.room; few = omega arith; small = kept.0; rising = kept.1; summed = kept.2 }
+
+pub returns : goal.returns
+returns c =
+    let r = c.args.self.now in
+    let told : rising_verdict (readings r) c.args.reading ≡ 0 = search rules in
+    let many = held_many r in
+    record { answer = (told, omega arith, pushed r c.args.reading (c.sum_first.result + c.args.reading) told) }
