@@ -1,9 +1,8 @@
 -- A level of a lawful sheet is lawful, and reading the sheet leaves it as it is.
-use Rattle.std.proofs.Common.{◌≡◌, ℕ, ◌+◌, ◌/◌, ◌<◌, ◌≤◌, Bool, true, sym, arith, div-mul-le_self}
+use Rattle.std.proofs.Common.{◌≡◌, ℕ, ◌+◌, ◌/◌, ◌<◌, Bool, true, sym, arith, div-mul-le_self}
 use Rattle.search.specs.declared.sheet.Sheet.{Ghosts}
 use Rattle.search.specs.declared.strip.Strip.{Strip}
 use Rattle.search.specs.Search.{Fits}
-use Rattle.search.specs.Strips.{Inside}
 use Rattle.search.specs.Grid.{Column}
 use Rattle.search.specs.Levels.{every, row_of}
 use Rattle.search.specs.Steps.{HasPlace, Read}
@@ -20,13 +19,6 @@ pub fits_there : {S E : Type 0} (m : Ghosts S E) {n : ℕ} {s t : S} {strip : St
 fits_there m r f =
     let a = r.rows_same in
     let b = r.columns_same in
-    let rows = f.rows_in in
-    let columns = f.columns_in in
-    record { some_row = f.some_row; some_column = f.some_column; rows_in = omega arith; columns_in = omega arith }
-
--- a sheet is no taller and no wider than the largest, and so is what lies in it
-pub within_largest : {S E : Type 0} (m : Ghosts S E) {s : S} {strip : Strip} → m.rows s ≤ 512 → m.columns s ≤ 1023 → Fits m s strip → Inside strip 512 1023
-within_largest m low narrow f =
     let rows = f.rows_in in
     let columns = f.columns_in in
     record { some_row = f.some_row; some_column = f.some_column; rows_in = omega arith; columns_in = omega arith }

@@ -5,7 +5,7 @@ use Rattle.search.specs.declared.strip.Strip.{Strip}
 use Rattle.search.specs.declared.level.Level.{Level}
 use Rattle.search.specs.Reading.{Place, Reads}
 use Rattle.search.specs.Least.{Leftmost}
-use Rattle.search.specs.Search.{BestInRow}
+use Rattle.search.specs.Search.{Fits, BestInRow}
 use Rattle.search.specs.Grid.{Grid, Answer, Stack, Keeps}
 use Rattle.search.specs.Levels.{nth, every, base_of, Kept, AllKept}
 
@@ -23,6 +23,11 @@ ReadWithin m most s t = (n : ℕ) × (n ≤ most) × Read m n s t
 -- the grid of a level
 abbrev pub grid_of : {S E : Type 0} → Ghosts S E → S → Level → Grid E
 grid_of m s level = every m s level.strip level.stride
+
+-- the level lies inside the sheet, and its room has places for its columns and their number
+pub record Stands {S E : Type 0} (m : Ghosts S E) (s : S) (level : Level) (room : List ℕ) : Type 0 where
+  pub fits : Fits m s level.strip
+  pub long : level.rows < length room
 
 -- from place n on the list is as it was
 abbrev pub KeptFrom : List ℕ → List ℕ → ℕ → Type 0

@@ -1,10 +1,9 @@
 //! The reduction: of the columns of a level, those that can still hold a row's answer, at most one for each row.
 ghost use Rattle.std.specs.Prelude.{◌≡◌, ℕ, ◌+◌, ◌-◌, ◌*◌, ◌<◌, ◌≤◌, List, length};
 ghost use Rattle.std.specs.Iterator.{AlwaysYields, IsFinite};
-ghost use Rattle.search.specs.Search.{Fits};
 ghost use Rattle.search.specs.Grid.{Stack, Holds, Column};
 ghost use Rattle.search.specs.Levels.{nth};
-ghost use Rattle.search.specs.Steps.{HasPlace, Read, Driven, Offered, Reduced, grid_of};
+ghost use Rattle.search.specs.Steps.{HasPlace, Read, Stands, Driven, Offered, Reduced, grid_of};
 
 use crate::level::Level;
 use crate::sheet::Sheet;
@@ -37,8 +36,7 @@ fn beats<S: Sheet>(sheet: &mut S, row: usize, left: usize, right: usize) -> bool
 
 /// How many columns of the stack are left once `column` has driven out those on top that it beats.
 fn driven<S: Sheet>(sheet: &mut S, room: &[usize], level: Level, len: usize, column: usize) -> usize
-    requires fits { Fits S.Sheet sheet.old level.strip }
-    requires room { level.rows < length room.now }
+    requires stands { Stands S.Sheet sheet.old level room.now }
     requires stack { Stack (grid_of S.Sheet sheet.old level) (nth room.now) len column }
     requires inside { Column (grid_of S.Sheet sheet.old level) column }
     ensures after { Driven S.Sheet sheet.old sheet.new level room.now len column result }
@@ -59,8 +57,7 @@ fn offer<S: Sheet>(
     len: usize,
     column: usize,
 ) -> usize
-    requires fits { Fits S.Sheet sheet.old level.strip }
-    requires room { level.rows < length room.old }
+    requires stands { Stands S.Sheet sheet.old level room.old }
     requires stack { Stack (grid_of S.Sheet sheet.old level) (nth room.old) len column }
     requires inside { Column (grid_of S.Sheet sheet.old level) column }
     ensures after { Offered S.Sheet sheet.old sheet.new level room.old room.new len column result }
@@ -81,8 +78,7 @@ pub(crate) fn reduce<S: Sheet, I: Iterator<Item = usize> + Drop>(
     columns: I,
 )
     ghost offered: { List ℕ }
-    requires fits { Fits S.Sheet sheet.old level.strip }
-    requires room { level.rows < length room.old }
+    requires stands { Stands S.Sheet sheet.old level room.old }
     requires can { I.can_next columns }
     requires ends { IsFinite (I.remaining columns) }
     requires gives { AlwaysYields I.next_gives (λ c. c) columns offered }

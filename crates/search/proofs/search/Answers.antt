@@ -1,4 +1,4 @@
-use Rattle.std.proofs.Common.{◌≡◌, ℕ, ◌-◌, ◌*◌, ◌^◌, ◌≤◌, length, refl, arith, pow_pos}
+use Rattle.std.proofs.Common.{◌≡◌, ℕ, ◌-◌, ◌^◌, refl, arith, pow_pos}
 use Rattle.search.specs.Search.{Fits}
 use Rattle.search.proofs.Standing.{fits_there, level_agrees}
 use Rattle.search.specs.Levels.{every}
@@ -18,30 +18,19 @@ fits g c =
     let columns = i.columns_in in
     record { some_row = i.some_row; some_column = i.some_column; rows_in = omega arith; columns_in = omega arith }
 
-pub lower-last-requires : goal.lower-last-requires
-lower-last-requires g c =
+pub lower-last-requires-clause-kept : goal.lower-last-requires-clause-kept
+lower-last-requires-clause-kept g c =
     let m = g.S.Sheet in
-    let room : 4 * c.args.strip.rows ≤ length c.args.work.now = omega arith in
-    let inside = fits g (goal.at.lower-last-requires g c).After-start in
+    let inside = fits g (goal.at.lower-last-requires-clause-kept g c).After-start in
     let a = c.start.ensures.after in
-    record {
-      ready = record { fits = fits_there m a.reads.2 inside; room = omega arith };
-      kept = keeps_same (every m c.args.sheet.now c.args.strip 1) (level_agrees m (omega arith) inside a.reads.2) a.kept;
-    }
+    keeps_same (every m c.args.sheet.now c.args.strip 1) (level_agrees m (omega arith) inside a.reads.2) a.kept
 
-pub raise-requires : goal.raise-requires
-raise-requires g c =
+pub raise-requires-clause-levels : goal.raise-requires-clause-levels
+raise-requires-clause-levels g c =
     let m = g.S.Sheet in
-    let room : 4 * c.args.strip.rows ≤ length c.lower-last.new.work = omega arith in
-    let long : c.args.strip.rows ≤ length c.args.answers.now = omega arith in
-    let started = fits_there m c.start.ensures.after.reads.2 (fits g (goal.at.raise-requires g c).After-start) in
+    let started = fits_there m c.start.ensures.after.reads.2 (fits g (goal.at.raise-requires-clause-levels g c).After-start) in
     let l = c.lower-last.ensures.after in
-    record {
-      ready = record { fits = fits_there m l.reads.2 started; room = room };
-      long = long;
-      levels = (l.levels.0, l.levels.1, λ d h. keeps_same (every m c.start.new.sheet c.args.strip (2 ^ d)) (level_agrees m (pow_pos d) started l.reads.2) (l.levels.2 d h));
-      end = l.last;
-    }
+    (l.levels.0, l.levels.1, λ d h. keeps_same (every m c.start.new.sheet c.args.strip (2 ^ d)) (level_agrees m (pow_pos d) started l.reads.2) (l.levels.2 d h))
 
 told : {a b x y : ℕ} → a ≡ x → b ≡ y → a - b ≡ x - y
 told p q = omega arith

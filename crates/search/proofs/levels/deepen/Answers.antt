@@ -20,13 +20,12 @@ before g c =
 
 pub kept-requires : goal.kept-requires
 kept-requires g c =
-    let b = before g (goal.at.kept-requires g c).After-split_at_mut-front in
     let front = c.split_at_mut-front.result.0.now in
+    let b = before g (goal.at.kept-requires g c).After-split_at_mut-front in
     let is = c.at-above.ensures in
     let whole = c.at-above.result.whole in
-    let room = of_level (λ a i. base_of a i + a.rows / i < length front) (sym is.strip) (sym is.stride) b.1 in
-    let few = of_level (λ a i. many front a i ≤ a.rows / i) (sym is.strip) (sym is.stride) b.0.few in
-    record { room = omega arith; few = omega arith }
+    let there = of_level (λ a i. (base_of a i + a.rows / i < length front) × (many front a i ≤ a.rows / i)) (sym is.strip) (sym is.stride) (b.1, b.0.few) in
+    record { room = omega (arith, there.0); few = omega (arith, there.1) }
 
 -- and so has the list of them
 shown : (g : given.Over) (c : After-copied-columns g) → Kept g.S.Sheet c.args.sheet.now c.args.strip c.args.stride c.split_at_mut-front.result.0.now → Keeps (every g.S.Sheet c.args.sheet.now c.args.strip c.args.stride) (nth (iter_rest (copied_source c.copied-columns.result))) (length (iter_rest (copied_source c.copied-columns.result)))
@@ -49,7 +48,7 @@ reduce-requires g c κs within =
     let holds = holds_below m s strip stride (length columns) (nth columns) h.twice kept.holds in
     let is_base : c.base-base.result ≡ base_of strip (stride * 2) = of_level (λ a i. c.base-base.result ≡ base_of a i) is.strip is.stride c.base-base.ensures in
     let rows : c.at-level.result.rows ≡ strip.rows / (stride * 2) = of_level (λ a i. c.at-level.result.rows ≡ a.rows / i) is.strip is.stride c.at-level.result.whole in
-    (within.0, ((λ a l. search rules), (within.1, (subst (λ x. Fits m s x) (sym is.strip) c.requires.ready.fits, (omega (arith, c.split_at_mut-front.ensures.back_len, c.requires.ready.room, h.all, h.twice, h.one), (tt, (tt, (Copied-slice _, of_level (λ a i. Holds (every m s a i) (nth columns) (length columns)) (sym is.strip) (sym is.stride) holds))))))))
+    (within.0, ((λ a l. search rules), (within.1, (record { fits = subst (λ x. Fits m s x) (sym is.strip) c.requires.ready.fits; long = omega (arith, c.split_at_mut-front.ensures.back_len, c.requires.ready.room, h.all, h.twice, h.one) }, (tt, (tt, (Copied-slice _, of_level (λ a i. Holds (every m s a i) (nth columns) (length columns)) (sym is.strip) (sym is.stride) holds)))))))
 
 pub returns : goal.returns
 returns g c =

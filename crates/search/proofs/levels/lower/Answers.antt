@@ -1,23 +1,18 @@
 use Rattle.std.proofs.Common.{◌≡◌, ℕ, ◌+◌, ◌*◌, ◌/◌, ◌^◌, ◌<◌, ◌≤◌, sym, ap, ◌∙◌, subst, arith}
 use Rattle.search.specs.Levels.{Kept, every, nth, base_of}
 use Rattle.search.proofs.Reading.{read_more}
-use Rattle.search.proofs.Depths.{halved, pow_next, one_more}
-use Rattle.search.proofs.Standing.{fits_there, level_agrees, agrees_back}
+use Rattle.search.proofs.Depths.{last_kept, halved, pow_next, one_more}
+use Rattle.search.proofs.Standing.{level_agrees, agrees_back}
 use Rattle.search.proofs.Grid.{keeps_same}
 use Rattle.search.proofs.levels.lower.Goals as goal
 
-pub deepen-requires : goal.deepen-requires
-deepen-requires g c =
+pub deepen-requires-clause-kept : goal.deepen-requires-clause-kept
+deepen-requires-clause-kept g c =
     let m = g.S.Sheet in
+    let s = c.args.sheet.now in
     let inv = c.loop-stride.invariant in
-    let fits = c.requires.ready.fits in
     let lev = inv.2 in
-    record {
-      ready = record { fits = fits_there m inv.4.2 fits; room = omega (arith, c.requires.ready.room, c.loop-stride.auto.work) };
-      step = inv.0;
-      below = omega (arith, c.loop-stride-test.true);
-      kept = keeps_same (every m c.args.sheet.now c.args.strip c.loop-stride.stride) (level_agrees m inv.0 fits inv.4.2) (subst (λ k. Kept m c.args.sheet.now c.args.strip k c.loop-stride.work) (sym lev.1) (lev.2 lev.0 (omega arith)));
-    }
+    keeps_same (every m s c.args.strip c.loop-stride.stride) (level_agrees m inv.0 c.requires.ready.fits inv.4.2) (last_kept m s c.args.strip c.loop-stride.work c.loop-stride.stride lev.0 lev.1 lev.2)
 
 bill : (a most n rows half : ℕ) → a + 8 * rows ≤ most → n ≤ 4 * rows → half ≡ rows / 2 → (a + n) + 8 * half ≤ most
 bill a most n rows half x y z = omega arith

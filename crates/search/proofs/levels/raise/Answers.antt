@@ -1,10 +1,9 @@
 use Rattle.std.proofs.Common.{◌≡◌, ℕ, ◌+◌, ◌-◌, ◌*◌, ◌/◌, ◌^◌, ◌<◌, ◌≤◌, length, get_or, sym, ap, ◌∙◌, subst, arith, pow_pos}
 use native.Mathlib.Nat.{div-div-eq-div-mul}
-use Rattle.search.specs.Search.{Fits}
 use Rattle.search.specs.Grid.{Answer, Keeps}
 use Rattle.search.specs.Levels.{Kept, Shown, nth, every}
 use Rattle.search.specs.Steps.{Filled}
-use Rattle.search.proofs.Standing.{fits_there, level_agrees}
+use Rattle.search.proofs.Standing.{level_agrees}
 use Rattle.search.proofs.Grid.{answer_same, keeps_same}
 use Rattle.search.proofs.Depths.{Answered, of_level, last_kept, shown_keeps, level_done, all_answered, odd_rows, pow_half}
 use Rattle.search.proofs.levels.raise.Given as given
@@ -23,29 +22,26 @@ shown g c k =
     let is = c.at-level.ensures in
     shown_keeps g.S.Sheet c.args.sheet.now c.args.strip c.loop-stride.stride c.args.work.now c.kept.result.now (of_level (λ a i. Shown a i c.args.work.now c.kept.result.now) is.strip is.stride c.kept.ensures) k
 
-pub fill-requires : goal.fill-requires
-fill-requires g c =
+pub fill-requires-clause-keeps : goal.fill-requires-clause-keeps
+fill-requires-clause-keeps g c =
     let m = g.S.Sheet in
-    let here = goal.at.fill-requires g c in
-    let s = c.args.sheet.now in
+    let here = goal.at.fill-requires-clause-keeps g c in
+    let inv = c.loop-stride.invariant in
+    let columns = c.kept.result.now in
+    let is = c.at-level.ensures in
+    of_level (λ a i. Keeps (every m c.loop-stride.sheet a i) (nth columns) (length columns)) (sym is.strip) (sym is.stride) (keeps_same (every m c.args.sheet.now c.args.strip c.loop-stride.stride) (level_agrees m inv.4 c.requires.ready.fits inv.3.2) (shown g here.After-kept (kept g here.After-at-level)))
+
+pub fill-requires-clause-known : goal.fill-requires-clause-known
+fill-requires-clause-known g c =
+    let m = g.S.Sheet in
     let t = c.loop-stride.sheet in
     let inv = c.loop-stride.invariant in
-    let fits = c.requires.ready.fits in
-    let strip = c.args.strip in
-    let stride = c.loop-stride.stride in
-    let columns = c.kept.result.now in
     let answers = c.loop-stride.answers in
     let is = c.at-level.ensures in
     let whole = c.at-level.result.whole in
-    let agree = level_agrees m inv.4 fits inv.3.2 in
-    let keeps = keeps_same (every m s strip stride) agree (shown g here.After-kept (kept g here.After-at-level)) in
-    let known = of_level (λ a i. (j : ℕ) → 2 * j + 1 < a.rows / i → Answer (every m t a i) (2 * j + 1) (get_or answers ((2 * j + 1 + 1) * i - 1) 0)) (sym is.strip) (sym is.stride) (λ j l. answer_same (every m s strip stride) agree (2 * j + 1) _ l (inv.1 j l)) in
-    record {
-      fits = subst (Fits m t) (sym is.strip) (fits_there m inv.3.2 fits);
-      keeps = of_level (λ a i. Keeps (every m t a i) (nth columns) (length columns)) (sym is.strip) (sym is.stride) keeps;
-      known = λ j l. known j (omega arith);
-      long = subst (λ a. a.rows ≤ length answers) (sym is.strip) (omega (arith, c.requires.long, c.loop-stride.auto.answers));
-    }
+    let agree = level_agrees m inv.4 c.requires.ready.fits inv.3.2 in
+    let known = of_level (λ a i. (j : ℕ) → 2 * j + 1 < a.rows / i → Answer (every m t a i) (2 * j + 1) (get_or answers ((2 * j + 1 + 1) * i - 1) 0)) (sym is.strip) (sym is.stride) (λ j l. answer_same (every m c.args.sheet.now c.args.strip c.loop-stride.stride) agree (2 * j + 1) _ l (inv.1 j l)) in
+    λ j l. known j (omega arith)
 
 -- what stands once this turn's level is filled
 done : (g : given.Over) (c : After-fill g) → Keeps (every g.S.Sheet c.args.sheet.now c.args.strip c.loop-stride.stride) (nth c.kept.result.now) (length c.kept.result.now) → Answered g.S.Sheet c.args.sheet.now c.fill.new.sheet c.args.strip c.loop-stride.stride c.args.answers.now c.fill.new.answers

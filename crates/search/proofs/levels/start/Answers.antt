@@ -20,7 +20,7 @@ reduce-requires g c κs within =
     let holds = all_columns (every m s strip level.stride) (strip.column + strip.columns) refl in
     let is_base : c.base-base.result ≡ base_of strip 1 = of_level (λ a i. c.base-base.result ≡ base_of a i) is.strip is.stride c.base-base.ensures in
     let rows : level.rows ≡ strip.rows / 1 = of_level (λ a i. level.rows ≡ a.rows / i) is.strip is.stride level.whole in
-    (within.0, ((λ a l. search rules), (within.1, (subst (λ x. Fits m s x) (sym is.strip) c.requires.ready.fits, (omega (arith, c.split_at_mut-room.ensures.back_len, c.requires.ready.room, div-one strip.rows, level.some), (tt, (tt, (Range-gives _, subst (λ x. Holds (every m s x level.stride) (nth all) (length all)) (sym is.strip) holds.0))))))))
+    (within.0, ((λ a l. search rules), (within.1, (record { fits = subst (λ x. Fits m s x) (sym is.strip) c.requires.ready.fits; long = omega (arith, c.split_at_mut-room.ensures.back_len, c.requires.ready.room, div-one strip.rows, level.some) }, (tt, (tt, (Range-gives _, subst (λ x. Holds (every m s x level.stride) (nth all) (length all)) (sym is.strip) holds.0)))))))
 
 pub returns : goal.returns
 returns g c =

@@ -20,7 +20,7 @@ on_top g c = top_column (grid_of g.S.Sheet c.args.sheet.now c.args.level) (nth c
 said : (g : given.Over) (c : After-row g) (b : Bool) → b ≡ g.S.Sheet.before (g.S.Sheet.at c.loop-top.sheet c.row.result c.args.column) (g.S.Sheet.at c.loop-top.sheet c.row.result (nth c.args.room.now (c.loop-top.top - 1))) → let G = grid_of g.S.Sheet c.args.sheet.now c.args.level in G.before (G.entry (c.loop-top.top - 1) c.args.column) (G.entry (c.loop-top.top - 1) (nth c.args.room.now (c.loop-top.top - 1))) ≡ b
 said g c b h =
     let f = c.loop-top.invariant.0.fits in
-    said_before g.S.Sheet c.args.level.step c.requires.fits c.loop-top.invariant.1 (c.loop-top.top - 1) _ c.args.column c.row.result (omega arith) (on_top g c) c.requires.inside c.row.ensures b h
+    said_before g.S.Sheet c.args.level.step c.requires.stands.fits c.loop-top.invariant.1 (c.loop-top.top - 1) _ c.args.column c.row.result (omega arith) (on_top g c) c.requires.inside c.row.ensures b h
 
 pub returns-then-not-beats : goal.returns-then-not-beats
 returns-then-not-beats g c =
@@ -47,7 +47,7 @@ loop-top-preserved g c =
     let most = c.loop-top.auto.top in
     let e : 2 * (c.args.len - c.loop-top.top) + 2 ≡ 2 * (c.args.len - (c.loop-top.top - 1)) = omega arith in
     let answer = c.if-not-beats.ensures in (
-      pop_top (level_lawful m c.args.level.step c.requires.fits (laws g)) (nth c.args.room.now) c.loop-top.top c.args.column some inv.0 c.requires.inside (said g (goal.at.loop-top-preserved g c).After-row _ answer.value),
+      pop_top (level_lawful m c.args.level.step c.requires.stands.fits (laws g)) (nth c.args.room.now) c.loop-top.top c.args.column some inv.0 c.requires.inside (said g (goal.at.loop-top-preserved g c).After-row _ answer.value),
       subst (λ k. Read m k c.args.sheet.now c.beats.new.sheet) e (read_more m g.met.S.Sheet.onward inv.1 answer.after),
     )
 

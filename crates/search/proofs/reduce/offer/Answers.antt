@@ -12,14 +12,14 @@ laws g = let met = g.met.S.Sheet in record { order = record { irreflexive = met.
 pub returns-then-top-level : goal.returns-then-top-level
 returns-then-top-level g c =
     let whole = c.args.level.whole in
-    let room = c.requires.room in
+    let room = c.requires.stands.long in
     let d = c.driven-top.ensures.after in
     let top = c.driven-top.result in
     let few = d.reads.1 in
     let le = d.fewer in
     record {
       after = record {
-        stack = pushed (level_lawful g.S.Sheet c.args.level.step c.requires.fits (laws g)) c.args.room.now top c.args.column d.stack c.requires.inside (omega (arith, c.if-top-level.true)) (omega (arith, c.if-top-level.true)) d.lost;
+        stack = pushed (level_lawful g.S.Sheet c.args.level.step c.requires.stands.fits (laws g)) c.args.room.now top c.args.column d.stack c.requires.inside (omega (arith, c.if-top-level.true)) (omega (arith, c.if-top-level.true)) d.lost;
         beyond = λ j l. get_or-set_other c.args.room.now top j c.args.column 0 (λ e. omega (arith, c.if-top-level.true));
         reads = (d.reads.0, omega arith, d.reads.2);
       };
@@ -34,7 +34,7 @@ returns g c =
     let le = d.fewer in
     record {
       after = record {
-        stack = pass (level_lawful g.S.Sheet c.args.level.step c.requires.fits (laws g)) (nth c.args.room.now) c.driven-top.result c.args.column d.stack c.requires.inside (omega (arith, c.if-top-level.false)) (omega arith) d.lost;
+        stack = pass (level_lawful g.S.Sheet c.args.level.step c.requires.stands.fits (laws g)) (nth c.args.room.now) c.driven-top.result c.args.column d.stack c.requires.inside (omega (arith, c.if-top-level.false)) (omega arith) d.lost;
         beyond = λ j l. refl;
         reads = (d.reads.0, omega arith, d.reads.2);
       };

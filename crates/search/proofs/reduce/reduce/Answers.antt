@@ -6,7 +6,7 @@ use Rattle.search.specs.Levels.{nth}
 use Rattle.search.specs.Steps.{grid_of}
 use Rattle.search.proofs.Reading.{read_none, read_more}
 use Rattle.search.proofs.Kept.{upto, upto_in, first_offered, next_offered, upto_end}
-use Rattle.search.proofs.Standing.{Laws, fits_there, level_lawful, level_agrees, agrees_back}
+use Rattle.search.proofs.Standing.{Laws, level_lawful, level_agrees, agrees_back}
 use Rattle.search.proofs.Grid.{stack_same}
 use Rattle.search.proofs.Lists.{counted, given_next, given_all}
 use Rattle.search.proofs.reduce.reduce.Given as given
@@ -16,51 +16,48 @@ use Rattle.search.proofs.reduce.reduce.Goals.{In-Some}
 laws : (g : given.Over) → Laws g.S.Sheet
 laws g = let met = g.met.S.Sheet in record { order = record { irreflexive = met.irreflexive; transitive = met.transitive; weak = met.weak }; monotone = met.monotone }
 
--- Behind the lifetimes `requires` has the clauses in their order: fits, room, can, ends, gives and holds.
+-- Behind the lifetimes `requires` has the clauses in their order: stands, can, ends, gives and holds.
 
 -- the turn's column is the list's next one
 next : (g : given.Over) (c : In-Some g) → (length c.loop-column.yielded < length g.offered) × (nth g.offered (length c.loop-column.yielded) ≡ c.in-Some.column)
 next g c =
     let steps = g.I.Iterator.next_gives in
     let it = c.into_iter-column-iterator in
-    let gives = subst (λ s. AlwaysYields steps {B = ℕ} (λ x. x) s g.offered) (sym it.ensures.into_iter_gives) c.requires.1.1.1.1.1.1.1.0 in
+    let gives = subst (λ s. AlwaysYields steps {B = ℕ} (λ x. x) s g.offered) (sym it.ensures.into_iter_gives) c.requires.1.1.1.1.1.1.0 in
     given_next steps it.result g.offered gives c.loop-column.yielded c.in-Some.column c.next.new.self (Yields-more steps it.result c.loop-column.yielded c.loop-column.column-iterator c.in-Some.column c.next.new.self c.loop-column.yielded_by c.in-Some.ensures.steps)
 
 pub loop-column-init : goal.loop-column-init
 loop-column-init g c =
     let m = g.S.Sheet in
     let s = c.args.sheet.now in (
-      first_offered (grid_of m s c.args.level) (nth g.offered) (length g.offered) c.requires.1.1.1.1.1.1.1.1 (nth c.args.room.now),
+      first_offered (grid_of m s c.args.level) (nth g.offered) (length g.offered) c.requires.1.1.1.1.1.1.1 (nth c.args.room.now),
       λ j l. refl,
       (0, omega arith, read_none m g.met.S.Sheet.stays g.met.S.Sheet.capped s),
     )
 
-pub offer-len-requires : goal.offer-len-requires
-offer-len-requires g c =
+pub offer-len-requires-clause-stack : goal.offer-len-requires-clause-stack
+offer-len-requires-clause-stack g c =
     let m = g.S.Sheet in
     let inv = c.loop-column.invariant in
     let level = c.args.level in
-    let fits = c.requires.1.1.1.0 in
-    let room = c.requires.1.1.1.1.0 in
-    let holds = c.requires.1.1.1.1.1.1.1.1 in
-    let n = next g (goal.at.offer-len-requires g c).In-Some in
+    let n = next g (goal.at.offer-len-requires-clause-stack g c).In-Some in
     let G = grid_of m c.args.sheet.now level in
     let same = upto_in (nth g.offered) (level.strip.column + level.strip.columns) (length g.offered) (length c.loop-column.yielded) n.0 ∙ n.1 in
-    let col = subst (λ x. Column G x) n.1 (holds.within (length c.loop-column.yielded) n.0) in
-    record {
-      fits = fits_there m inv.2.2 fits;
-      room = omega (arith, c.loop-column.auto.room);
-      stack = stack_same G (level_agrees m level.step fits inv.2.2) (subst (λ x. Stack G (nth c.loop-column.room) c.loop-column.len x) same inv.0);
-      inside = record { low = col.low; high = col.high };
-    }
+    stack_same G (level_agrees m level.step c.requires.1.1.1.0.fits inv.2.2) (subst (λ x. Stack G (nth c.loop-column.room) c.loop-column.len x) same inv.0)
+
+pub offer-len-requires-clause-inside : goal.offer-len-requires-clause-inside
+offer-len-requires-clause-inside g c =
+    let n = next g (goal.at.offer-len-requires-clause-inside g c).In-Some in
+    let col = c.requires.1.1.1.1.1.1.1.within (length c.loop-column.yielded) n.0 in
+    subst (Column (grid_of g.S.Sheet c.loop-column.sheet c.args.level)) n.1 (record { low = col.low; high = col.high })
 
 pub loop-column-preserved : goal.loop-column-preserved
 loop-column-preserved g c =
     let m = g.S.Sheet in
     let inv = c.loop-column.invariant in
     let level = c.args.level in
-    let fits = c.requires.1.1.1.0 in
-    let holds = c.requires.1.1.1.1.1.1.1.1 in
+    let fits = c.requires.1.1.1.0.fits in
+    let holds = c.requires.1.1.1.1.1.1.1 in
     let n = next g (goal.at.loop-column-preserved g c).In-Some in
     let seen = length c.loop-column.yielded in
     let one : length (c.in-Some.column ∷ []) ≡ 1 = refl in
@@ -83,9 +80,9 @@ returns g c =
     let level = c.args.level in
     let steps = g.I.Iterator.next_gives in
     let it = c.into_iter-column-iterator in
-    let fits = c.requires.1.1.1.0 in
-    let room = c.requires.1.1.1.1.0 in
-    let gives = subst (λ s. AlwaysYields steps {B = ℕ} (λ x. x) s g.offered) (sym it.ensures.into_iter_gives) c.requires.1.1.1.1.1.1.1.0 in
+    let fits = c.requires.1.1.1.0.fits in
+    let room = c.requires.1.1.1.0.long in
+    let gives = subst (λ s. AlwaysYields steps {B = ℕ} (λ x. x) s g.offered) (sym it.ensures.into_iter_gives) c.requires.1.1.1.1.1.1.0 in
     let all = given_all steps it.result g.offered gives c.loop-column.yielded (c.next.new.self, (c.loop-column.column-iterator, c.loop-column.yielded_by, c.in-None.ensures.steps)) in
     let G = grid_of m c.args.sheet.now level in
     let end = upto_end (nth g.offered) (level.strip.column + level.strip.columns) (length g.offered) (length c.loop-column.yielded) (omega (arith, all)) in

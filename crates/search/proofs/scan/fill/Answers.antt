@@ -39,11 +39,11 @@ row_at rows stride i pos l = omega (arith, row_in i (rows / stride) stride pos l
 turns : (g : given.Over) (c : After-reach-end g) → 2 * c.loop-p.p < c.args.level.strip.rows / c.args.level.stride
 turns g c = let l = half_up c.args.level.rows c.loop-p.p (omega (arith, c.loop-p-test.true, c.div_ceil-p-end.ensures)) in omega (arith, c.args.level.whole)
 
-pub least_of-requires : goal.least_of-requires
-least_of-requires g c =
+pub least_of-requires-clause-places : goal.least_of-requires-clause-places
+least_of-requires-clause-places g c =
     let m = g.S.Sheet in
     let level = c.args.level in
-    let before = (goal.at.least_of-requires g c).After-reach-end in
+    let before = (goal.at.least_of-requires-clause-places g c).After-reach-end in
     let lt = turns g before in
     let kept = c.args.kept.now in
     let place = c.loop-p.place in
@@ -51,10 +51,7 @@ least_of-requires g c =
     let end = c.reach-end.result in
     let to = reached kept place low c.if-p-level.last end c.reach-end.ensures in
     let n = length-run kept place low end to.0 in
-    record {
-      some = omega arith;
-      places = λ j l. subst (HasPlace m c.loop-p.sheet _) (sym (in_run kept place low end j to.0 (omega arith))) (place_there m c.loop-p.invariant.5.2 (level_place m level.step c.requires.fits (2 * c.loop-p.p) _ lt (c.requires.keeps.holds.within (place + j) (omega arith))));
-    }
+    λ j l. subst (HasPlace m c.loop-p.sheet _) (sym (in_run kept place low end j to.0 (omega arith))) (place_there m c.loop-p.invariant.5.2 (level_place m level.step c.requires.fits (2 * c.loop-p.p) _ lt (c.requires.keeps.holds.within (place + j) (omega arith))))
 
 pub bounds-answers-at-in-loop-p : goal.bounds-answers-at-in-loop-p
 bounds-answers-at-in-loop-p g c =
