@@ -1,21 +1,21 @@
 -- The list of readings held, as the entries have it.
-use Rattle.std.specs.Prelude.{◌≡◌, ℕ, ◌+◌, ◌*◌, ◌≤◌, List, [], ◌∷◌, ◌++◌, length, take, slice_index, slice_set}
-use Rattle.std.proofs.Common.{sym, ap, ◌∙◌, arith}
-use Rattle.std.proofs.lemmas.List.{length-map, map-append, take-map, length-take-le, take-take, take_more_set}
+use Rattle.std.specs.Prelude.{◌≡◌, ℕ, ◌+◌, ◌-◌, ◌*◌, ◌<◌, ◌≤◌, List, [], ◌∷◌, ◌++◌, length, take, slice_index, slice_set}
+use Rattle.std.proofs.Common.{sym, ap, ◌∙◌, mul-le-mul, arith}
+use Rattle.std.proofs.lemmas.List.{length-map, map-append, take-map, length-take-le, get_or-take, get_or_past, take-take, take_more_set}
 use Rattle.rising.specs.declared.readings.Entry.{Entry}
 use Rattle.rising.specs.declared.readings.Readings.{Readings}
 use Rattle.rising.specs.Entries.{taken, sums}
 use Rattle.rising.specs.Held.{entries_of, readings}
-use Rattle.rising.specs.Rows.{Small, Rising, Summed, rising_verdict}
+use Rattle.rising.specs.Rows.{Small, Rising, Summed, last, rising_verdict}
 use Rattle.rising.specs.Sums.{sum_first}
 use Rattle.rising.specs.SumsLemmas.{total_bounded}
-use Rattle.rising.specs.RowsLemmas.{allowed, small_push, rising_push, summed_push, small_front, rising_front, summed_front}
+use Rattle.rising.specs.RowsLemmas.{allowed, small_push, rising_push, summed_append, small_front, rising_front, summed_take}
 
-pub held_many : (r : Readings) → length (readings r) ≡ r.n
-held_many r = omega (arith, length-map (entries_of r) (λ e. e.reading), length-take-le r.n r.entries (omega (arith, r.few, r.room)))
+pub held_length : (r : Readings) → length (readings r) ≡ r.n
+held_length r = omega (arith, length-map (entries_of r) (λ e. e.reading), length-take-le r.n r.entries (omega (arith, r.few, r.room)))
 
 pub held_few : (r : Readings) → length (readings r) ≤ 512
-held_few r = omega (arith, held_many r, r.few)
+held_few r = omega (arith, held_length r, r.few)
 
 pub held_small : (r : Readings) → Small (readings r)
 held_small r = r.small
@@ -23,9 +23,24 @@ held_small r = r.small
 pub held_rising : (r : Readings) → Rising (readings r)
 held_rising r = r.rising
 
+pub held_at : (r : Readings) (i : ℕ) → i < r.n → slice_index (readings r) i ≡ slice_index (taken r.entries) i
+held_at r i h = ap (λ x. slice_index x i) (sym (take-map (λ e. e.reading) r.n r.entries)) ∙ get_or-take r.n (taken r.entries) i 0 h
+
+pub held_sum : (r : Readings) (k : ℕ) → k ≤ r.n → slice_index (0 ∷ sums (entries_of r)) k ≡ sum_first (readings r) k
+held_sum r k h = r.summed k (omega (arith, held_length r))
+
+pub last_held : (r : Readings) → 0 < r.n → last (readings r) ≡ slice_index (taken r.entries) (r.n - 1)
+last_held r some = ap (λ k. slice_index (readings r) (k - 1)) (held_length r) ∙ held_at r (r.n - 1) (omega arith)
+
+pub last_none : (r : Readings) → r.n ≡ 0 → last (readings r) ≡ 0
+last_none r none = get_or_past (readings r) _ 0 (omega (arith, held_length r))
+
 -- so few small readings have a small sum
 pub sums_small : (r : Readings) (k : ℕ) → k ≤ length (readings r) → sum_first (readings r) k ≤ k * 65535
 sums_small r k h = total_bounded (λ i. slice_index (readings r) i) 65535 0 k (λ i l m. held_small r i (omega arith))
+
+pub times_reading : (r : Readings) (k i v : ℕ) → v ≡ slice_index (readings r) i → k ≤ 512 → i < length (readings r) → k * v ≤ 33553920
+times_reading r k i v is h l = let small : v ≤ 65535 = omega (arith, held_small r i l) in mul-le-mul h small
 
 abbrev Kept : List Entry → Type 0
 Kept entries = Small (taken entries) × Rising (taken entries) × Summed (taken entries) (0 ∷ sums entries)
@@ -39,10 +54,10 @@ module _ (r : Readings) where
     more_is : more ≡ entries_of r ++ record { reading = reading; sum = sum } ∷ []
     more_is =
         let ok = allowed (readings r) reading (held_few r) told in
-        take_more_set r.entries r.n (record { reading = reading; sum = sum }) (omega (arith, r.room, held_many r))
+        take_more_set r.entries r.n (record { reading = reading; sum = sum }) (omega (arith, r.room, held_length r))
 
-    pub pushed : taken more ≡ readings r ++ reading ∷ []
-    pushed = rw more_is (map-append (λ e. e.reading) (entries_of r) (record { reading = reading; sum = sum } ∷ []))
+    pub push_is : taken more ≡ readings r ++ reading ∷ []
+    push_is = rw more_is (map-append (λ e. e.reading) (entries_of r) (record { reading = reading; sum = sum } ∷ []))
 
     -- what holds of the entries holds of them with an allowed one behind them
     pub push_kept : sum ≡ sum_first (readings r) (length (readings r)) + reading → Kept more
@@ -52,16 +67,25 @@ module _ (r : Readings) where
         let ok = allowed x reading (held_few r) told in
         let rooms : length (sums (entries_of r)) + 1 ≡ length x + 1 = omega (arith, length-map (entries_of r) (λ e. e.reading), length-map (entries_of r) (λ e. e.sum)) in
         rw (more_is, map-append (λ e. e.reading) (entries_of r) last, map-append (λ e. e.sum) (entries_of r) last)
-        (small_push x reading r.small ok.1, rising_push x reading r.rising ok.2, summed_push x reading (0 ∷ sums (entries_of r)) sum (omega arith) total r.summed)
+        (small_push x reading r.small ok.1, rising_push x reading r.rising ok.2, summed_append x reading (0 ∷ sums (entries_of r)) sum (omega arith) total r.summed)
+
+  module _ (reading : ℕ) (told : rising_verdict (readings r) reading ≡ 0) where
+    pub room_left : r.n < 512
+    room_left = omega (arith, (allowed (readings r) reading (held_few r) told).0, held_length r)
+
+    pub sum_fits : slice_index (0 ∷ sums (entries_of r)) r.n + reading ≤ 33553920
+    sum_fits =
+        let ok = allowed (readings r) reading (held_few r) told in
+        omega (arith, held_sum r r.n (omega arith), sums_small r r.n (omega (arith, held_length r)), room_left)
 
   module _ (k : ℕ) (within : k ≤ r.n) where
-    pub front : taken (take k r.entries) ≡ take k (readings r)
-    front = ap taken (sym (take-take k r.n r.entries within)) ∙ sym (take-map (λ e. e.reading) k (entries_of r))
+    pub front_is : taken (take k r.entries) ≡ take k (readings r)
+    front_is = ap taken (sym (take-take k r.n r.entries within)) ∙ sym (take-map (λ e. e.reading) k (entries_of r))
 
     -- and of the first k of them
     pub front_kept : Kept (take k r.entries)
     front_kept =
         let x = readings r in
-        let fewer : k ≤ length x = omega (arith, held_many r) in
+        let fewer : k ≤ length x = omega (arith, held_length r) in
         rw (sym (take-take k r.n r.entries within), sym (take-map (λ e. e.reading) k (entries_of r)), sym (take-map (λ e. e.sum) k (entries_of r)))
-        (small_front x k fewer r.small, rising_front x k fewer r.rising, summed_front x k fewer (0 ∷ sums (entries_of r)) r.summed)
+        (small_front x k fewer r.small, rising_front x k fewer r.rising, summed_take x k fewer (0 ∷ sums (entries_of r)) r.summed)

@@ -1,7 +1,7 @@
 -- Rising readings stay rising, small and summed when an allowed one follows or the last ones go.
-use Rattle.std.specs.Prelude.{◌≡◌, ℕ, suc, ◌+◌, ◌-◌, ◌<◌, ◌≤◌, List, [], ◌∷◌, ◌++◌, length, take, slice_index, slice_index_or, refl}
+use Rattle.std.specs.Prelude.{◌≡◌, ℕ, ◌+◌, ◌-◌, ◌<◌, ◌≤◌, ◌≢◌, List, [], ◌∷◌, ◌++◌, length, take, slice_index, slice_index_or, slice_set, suc, refl}
 use Rattle.std.proofs.Common.{ap, sym, ◌∙◌, ⊎_elim, add-one, arith}
-use Rattle.std.proofs.lemmas.List.{length-append, get_or_append_left, get_or-append_right, length-take-le, get_or-take}
+use Rattle.std.proofs.lemmas.List.{length-append, get_or_append_left, get_or-append_right, length-take-le, get_or-take, get_or-set_same, get_or-set_other}
 use Rattle.std.proofs.lemmas.Bool.{cases_lt}
 use Rattle.std.proofs.lemmas.Bool.Decides.{nat_tests}
 use Rattle.rising.specs.Sums.{sum_first}
@@ -42,8 +42,24 @@ module _ (x : List ℕ) (r : ℕ) where
       (cases_lt i (length x)))
       (cases_lt j (length x))
 
-  pub summed_push : (sums : List ℕ) (more : ℕ) → length sums ≡ length x + 1 → more ≡ sum_first x (length x) + r → Summed x sums → Summed (x ++ r ∷ []) (sums ++ more ∷ [])
-  summed_push sums more rooms is summed i l =
+  pub summed_push : (sums : List ℕ) → length x + 1 < length sums → Summed x sums → Summed (x ++ r ∷ []) (slice_set sums (length x + 1) (slice_index sums (length x) + r))
+  summed_push sums room summed i l =
+      let long = push_length in
+      let more = slice_index sums (length x) + r in
+      ⊎_elim
+      (λ old.
+      let other : i ≢ length x + 1 = omega arith in
+      get_or-set_other sums (length x + 1) i more 0 other ∙ summed i (omega arith) ∙ sym (sums_agree x (x ++ r ∷ []) i (λ k h. push_old k (omega arith))))
+      (λ new.
+      let at : i ≡ length x + 1 = omega arith in
+      let top : slice_index_or (x ++ r ∷ []) (0 + length x) 0 ≡ r = push_new (0 + length x) (omega arith) (omega arith) in
+      let here = get_or-set_same sums (length x + 1) more 0 room in
+      let below = sums_agree x (x ++ r ∷ []) (length x) push_old in
+      rw (at, here, add-one (length x)) (omega (arith, summed (length x) (omega arith))))
+      (cases_lt i (length x + 1))
+
+  pub summed_append : (sums : List ℕ) (more : ℕ) → length sums ≡ length x + 1 → more ≡ sum_first x (length x) + r → Summed x sums → Summed (x ++ r ∷ []) (sums ++ more ∷ [])
+  summed_append sums more rooms is summed i l =
       let long = push_length in
       ⊎_elim
       (λ old. get_or_append_left sums (more ∷ []) 0 i (omega arith) ∙ summed i (omega arith) ∙ sym (sums_agree x (x ++ r ∷ []) i (λ k h. push_old k (omega arith))))
@@ -68,7 +84,12 @@ module _ (x : List ℕ) (k : ℕ) (within : k ≤ length x) where
       let long = front_length in
       rw (get_or-take k x i 0 (omega arith), get_or-take k x j 0 (omega arith)) (rising i j ij (omega arith))
 
-  pub summed_front : (sums : List ℕ) → Summed x sums → Summed (take k x) (take (suc k) sums)
-  summed_front sums summed i l =
+  pub summed_take : (sums : List ℕ) → Summed x sums → Summed (take k x) (take (suc k) sums)
+  summed_take sums summed i l =
       let long = front_length in
       get_or-take (suc k) sums i 0 (omega arith) ∙ summed i (omega arith) ∙ sym (sums_agree x (take k x) i (λ j h. get_or-take k x j 0 (omega arith)))
+
+  pub summed_front : (sums : List ℕ) → Summed x sums → Summed (take k x) sums
+  summed_front sums summed i l =
+      let long = front_length in
+      summed i (omega arith) ∙ sym (sums_agree x (take k x) i (λ j h. get_or-take k x j 0 (omega arith)))
