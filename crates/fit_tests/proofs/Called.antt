@@ -1,5 +1,5 @@
 -- The caller's promise from the law over runs: its run of three calls is one of those that the law speaks of.
-use Rattle.std.proofs.Common.{◌≡◌, ℕ, zero, suc, ◌+◌, ◌-◌, ◌<◌, Bool, true, false, ◌⊎◌, List, [], ◌∷◌, map, length, replicate, Ok, Err, Result, refl, ap, ◌∙◌, subst, inl, inr, arith}
+use Rattle.std.proofs.Common.{◌≡◌, ℕ, zero, suc, ◌+◌, ◌-◌, ◌<◌, Bool, true, false, List, [], ◌∷◌, map, length, replicate, Ok, Err, Result, refl, ap, ◌∙◌, subst, inl, inr, arith}
 use Rattle.std.proofs.lemmas.List.{length-map, length-replicate}
 use Rattle.refusal.specs.declared.Refusal.{Refusal}
 use Rattle.refusal.specs.Rules.{Broken, NoOther}
@@ -23,11 +23,6 @@ brought_unsettled (suc n) = brought_unsettled n
 all_settled : (rs : List Bool) → settled (map (λ (r : Bool). true) rs) ≡ length (map (λ (r : Bool). true) rs)
 all_settled [] = refl
 all_settled (r ∷ rs) = let h = all_settled rs in omega arith
-
--- the only rule may stand before others
-first_rule : {A Number Later : Type 0} → ((A → ⊥) × Number) ⊎ (A × ⊥) → ((A → ⊥) × Number) ⊎ (A × Later)
-first_rule (inl b) = inl b
-first_rule (inr k) = absurd k.1
 
 told_held : (P : Result ℕ Refusal → Type 0) (a : Answer) → ByHeld P (Ok a) → (n : ℕ) × P (Ok n)
 told_held P (Held n) p = (n, p)
