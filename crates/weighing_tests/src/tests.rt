@@ -24,10 +24,11 @@ enum Step {
     Count,
 }
 
+use Refusal::{Full, Misfit, NoSuchPlace, NothingHeld, ReadingFalls, ReadingTooGreat};
 use Step::{Count, DropLast, Held, Level, Take, Top, Verdict, Weigh, Wipe};
 
-// what a step answers: a number, or the number of a refusal
-type Answer = Result<u64, u8>;
+// what a step answers
+type Answer = Result<u64, Refusal>;
 
 const GREATEST_CHARGE: u64 = 0x1000_0000;
 
@@ -36,7 +37,7 @@ const GREATEST_COUNT: u64 = 0x7fff_ffff_ffff_ffff;
 const GREATEST_TOP: u64 = 0x7ff_ffff_ffff_ffff;
 
 fn act<W: Weighing>(w: &mut W, step: Step) -> Answer {
-    let answer = match step {
+    match step {
         Take(reading) => w.take(reading).map(|n| n as u64),
         DropLast => w.drop_last().map(|n| n as u64),
         Wipe => Ok(w.wipe() as u64),
@@ -46,8 +47,7 @@ fn act<W: Weighing>(w: &mut W, step: Step) -> Answer {
         Held => Ok(w.held() as u64),
         Top => Ok(w.top()),
         Count => Ok(w.count()),
-    };
-    answer.map_err(Refusal::number)
+    }
 }
 
 fn follow<W: Weighing>(rt: &impl Abort, w: &mut W, script: &[(Step, Answer)]) {
@@ -74,12 +74,12 @@ fn ceiling_by_the_last_reading(rt: HostRuntime) {
             (Held, Ok(0)),
             (Count, Ok(0)),
             (Top, Ok(33_553_920)),
-            (DropLast, Err(5)),
-            (Weigh(0, 1), Err(8)),
+            (DropLast, Err(NothingHeld)),
+            (Weigh(0, 1), Err(NoSuchPlace)),
             (Take(2), Ok(1)),
             (Take(2), Ok(2)),
-            (Verdict(1), Err(3)),
-            (Take(1), Err(3)),
+            (Verdict(1), Err(ReadingFalls)),
+            (Take(1), Err(ReadingFalls)),
             (Take(5), Ok(3)),
             (Take(9), Ok(4)),
             (Take(9), Ok(5)),
@@ -88,24 +88,24 @@ fn ceiling_by_the_last_reading(rt: HostRuntime) {
             (Weigh(0, 2), Ok(0)),
             (Weigh(1, 3), Ok(3)),
             (Level(1, 3), Ok(5)),
-            (Weigh(2, 2), Err(8)),
-            (Weigh(3, 2), Err(8)),
-            (Weigh(0, 6), Err(8)),
-            (Level(2, 2), Err(8)),
-            (Level(3, 2), Err(8)),
-            (Level(0, 6), Err(8)),
+            (Weigh(2, 2), Err(NoSuchPlace)),
+            (Weigh(3, 2), Err(NoSuchPlace)),
+            (Weigh(0, 6), Err(NoSuchPlace)),
+            (Level(2, 2), Err(NoSuchPlace)),
+            (Level(3, 2), Err(NoSuchPlace)),
+            (Level(0, 6), Err(NoSuchPlace)),
             (Count, Ok(3)),
             (DropLast, Ok(4)),
             (DropLast, Ok(3)),
-            (Take(4), Err(3)),
+            (Take(4), Err(ReadingFalls)),
             (Take(6), Ok(4)),
             (Weigh(0, 4), Ok(9)),
             (Wipe, Ok(0)),
-            (Take(65_536), Err(2)),
+            (Take(65_536), Err(ReadingTooGreat)),
             (Take(1), Ok(1)),
             (Take(65_535), Ok(2)),
-            (Take(65_536), Err(2)),
-            (Take(u32::MAX), Err(2)),
+            (Take(65_536), Err(ReadingTooGreat)),
+            (Take(u32::MAX), Err(ReadingTooGreat)),
             (Take(65_535), Ok(3)),
             (Weigh(0, 3), Ok(65_534)),
             (Count, Ok(5)),
@@ -122,10 +122,10 @@ fn middle_by_the_middle_reading(rt: HostRuntime) {
         &[
             (Count, Ok(0)),
             (Top, Ok(33_553_920)),
-            (DropLast, Err(5)),
+            (DropLast, Err(NothingHeld)),
             (Take(0), Ok(1)),
             (Take(10), Ok(2)),
-            (Take(0), Err(3)),
+            (Take(0), Err(ReadingFalls)),
             (Wipe, Ok(0)),
             (Take(0), Ok(1)),
             (Take(5), Ok(2)),
@@ -140,11 +140,11 @@ fn middle_by_the_middle_reading(rt: HostRuntime) {
             (Take(11), Ok(4)),
             (Weigh(0, 4), Ok(16)),
             (Level(0, 4), Ok(10)),
-            (Weigh(4, 4), Err(8)),
-            (Weigh(1, 5), Err(8)),
-            (Level(2, 1), Err(8)),
+            (Weigh(4, 4), Err(NoSuchPlace)),
+            (Weigh(1, 5), Err(NoSuchPlace)),
+            (Level(2, 1), Err(NoSuchPlace)),
             (Count, Ok(5)),
-            (Take(65_536), Err(2)),
+            (Take(65_536), Err(ReadingTooGreat)),
             (Take(65_535), Ok(5)),
         ],
     );
@@ -161,28 +161,28 @@ fn even_by_length(rt: HostRuntime) {
             (Take(9), Ok(1)),
             (Take(0), Ok(2)),
             (Take(65_535), Ok(3)),
-            (Take(65_536), Err(2)),
+            (Take(65_536), Err(ReadingTooGreat)),
             (Take(7), Ok(4)),
             (Weigh(0, 1), Ok(1)),
             (Weigh(0, 2), Ok(0)),
             (Weigh(0, 4), Ok(4)),
             (Level(0, 4), Ok(0)),
-            (Weigh(0, 5), Err(8)),
+            (Weigh(0, 5), Err(NoSuchPlace)),
             (Count, Ok(3)),
             (DropLast, Ok(3)),
             (Wipe, Ok(0)),
-            (DropLast, Err(5)),
+            (DropLast, Err(NothingHeld)),
         ],
     );
     let misfit = [
         (Top, Ok(0)),
-        (Verdict(0), Err(4)),
-        (Take(70_000), Err(4)),
-        (DropLast, Err(5)),
-        (Weigh(0, 1), Err(8)),
+        (Verdict(0), Err(Misfit)),
+        (Take(70_000), Err(Misfit)),
+        (DropLast, Err(NothingHeld)),
+        (Weigh(0, 1), Err(NoSuchPlace)),
         (Wipe, Ok(0)),
         (Held, Ok(0)),
-        (Take(0), Err(4)),
+        (Take(0), Err(Misfit)),
     ];
     follow(&rt, &mut Even::new(0), &misfit);
     follow(&rt, &mut Even::new(513), &misfit);
@@ -198,46 +198,46 @@ fn even_by_length(rt: HostRuntime) {
 const ALIKE: [(Step, Answer); 31] = [
     (Held, Ok(0)),
     (Count, Ok(0)),
-    (DropLast, Err(5)),
+    (DropLast, Err(NothingHeld)),
     (Take(4), Ok(1)),
     (Take(4), Ok(2)),
-    (Weigh(1, 1), Err(8)),
-    (Weigh(2, 1), Err(8)),
-    (Weigh(0, 3), Err(8)),
-    (Weigh(2, 3), Err(8)),
-    (Level(1, 1), Err(8)),
-    (Level(2, 1), Err(8)),
-    (Level(0, 3), Err(8)),
-    (Level(2, 3), Err(8)),
+    (Weigh(1, 1), Err(NoSuchPlace)),
+    (Weigh(2, 1), Err(NoSuchPlace)),
+    (Weigh(0, 3), Err(NoSuchPlace)),
+    (Weigh(2, 3), Err(NoSuchPlace)),
+    (Level(1, 1), Err(NoSuchPlace)),
+    (Level(2, 1), Err(NoSuchPlace)),
+    (Level(0, 3), Err(NoSuchPlace)),
+    (Level(2, 3), Err(NoSuchPlace)),
     (Count, Ok(0)),
     (DropLast, Ok(1)),
-    (Weigh(0, 2), Err(8)),
-    (Level(0, 2), Err(8)),
+    (Weigh(0, 2), Err(NoSuchPlace)),
+    (Level(0, 2), Err(NoSuchPlace)),
     (Take(5), Ok(2)),
     (DropLast, Ok(1)),
     (DropLast, Ok(0)),
-    (DropLast, Err(5)),
+    (DropLast, Err(NothingHeld)),
     (Take(9), Ok(1)),
     (Wipe, Ok(0)),
-    (Weigh(0, 1), Err(8)),
-    (Level(0, 1), Err(8)),
+    (Weigh(0, 1), Err(NoSuchPlace)),
+    (Level(0, 1), Err(NoSuchPlace)),
     (Take(0), Ok(1)),
     (Level(0, 1), Ok(0)),
     (Verdict(65_535), Ok(0)),
-    (Verdict(65_536), Err(2)),
-    (Take(65_536), Err(2)),
+    (Verdict(65_536), Err(ReadingTooGreat)),
+    (Take(65_536), Err(ReadingTooGreat)),
     (Take(65_535), Ok(2)),
 ];
 
 // what those answer besides whose readings never fall
 const NEVER_FALLING: [(Step, Answer); 7] = [
-    (Verdict(65_534), Err(3)),
-    (Take(65_534), Err(3)),
+    (Verdict(65_534), Err(ReadingFalls)),
+    (Take(65_534), Err(ReadingFalls)),
     (Level(1, 2), Ok(65_535)),
     (Level(0, 2), Ok(65_535)),
     (DropLast, Ok(1)),
     (Take(65_534), Ok(2)),
-    (Take(65_533), Err(3)),
+    (Take(65_533), Err(ReadingFalls)),
 ];
 
 fn follow_never_falling<W: Weighing>(rt: &impl Abort, w: &mut W) {
@@ -268,8 +268,8 @@ fn greatest_weights(rt: HostRuntime) {
             (Weigh(0, 512), Ok(33_488_385)),
             (Weigh(0, 511), Ok(0)),
             (Weigh(511, 512), Ok(0)),
-            (Weigh(512, 512), Err(8)),
-            (Weigh(0, 513), Err(8)),
+            (Weigh(512, 512), Err(NoSuchPlace)),
+            (Weigh(0, 513), Err(NoSuchPlace)),
         ],
     );
     let mut middle = Middle::new();
@@ -296,12 +296,12 @@ fn fill_up<W: Weighing>(rt: &impl Abort, w: &mut W, weight: u64, level: u64) {
         &[
             (Held, Ok(511)),
             (Take(7), Ok(512)),
-            (Verdict(7), Err(1)),
-            (Take(7), Err(1)),
-            (Take(65_536), Err(1)),
-            (Take(0), Err(1)),
+            (Verdict(7), Err(Full)),
+            (Take(7), Err(Full)),
+            (Take(65_536), Err(Full)),
+            (Take(0), Err(Full)),
             (Held, Ok(512)),
-            (Weigh(0, 513), Err(8)),
+            (Weigh(0, 513), Err(NoSuchPlace)),
             (DropLast, Ok(511)),
             (Take(7), Ok(512)),
             (Weigh(0, 512), Ok(weight)),
@@ -328,15 +328,15 @@ fn charge_to_its_limits(rt: HostRuntime) {
         &[
             (Held, Ok(2)),
             (Top, Ok(301_989_376)),
-            (Take(2), Err(3)),
+            (Take(2), Err(ReadingFalls)),
             (Take(5), Ok(3)),
             (Weigh(0, 3), Ok(268_435_460)),
             (Level(0, 3), Ok(5)),
-            (Weigh(0, 4), Err(8)),
+            (Weigh(0, 4), Err(NoSuchPlace)),
             (Count, Ok(1)),
             (DropLast, Ok(2)),
             (Wipe, Ok(0)),
-            (DropLast, Err(5)),
+            (DropLast, Err(NothingHeld)),
         ],
     );
     let mut brought = Ceiling::new();
@@ -348,13 +348,13 @@ fn charge_to_its_limits(rt: HostRuntime) {
         &[
             (Held, Ok(0)),
             (Top, Ok(0)),
-            (Verdict(3), Err(4)),
-            (Take(70_000), Err(4)),
-            (DropLast, Err(5)),
-            (Weigh(0, 1), Err(8)),
-            (Level(0, 1), Err(8)),
+            (Verdict(3), Err(Misfit)),
+            (Take(70_000), Err(Misfit)),
+            (DropLast, Err(NothingHeld)),
+            (Weigh(0, 1), Err(NoSuchPlace)),
+            (Level(0, 1), Err(NoSuchPlace)),
             (Wipe, Ok(0)),
-            (Take(3), Err(4)),
+            (Take(3), Err(Misfit)),
             (Count, Ok(0)),
         ],
     );
@@ -386,7 +386,7 @@ fn charges_over_a_pair_to_the_top(rt: HostRuntime) {
         &[
             (Top, Ok(GREATEST_TOP)),
             (Held, Ok(1)),
-            (Take(3), Err(3)),
+            (Take(3), Err(ReadingFalls)),
             (Take(4), Ok(2)),
         ],
     );
@@ -397,7 +397,7 @@ fn charges_over_a_pair_to_the_top(rt: HostRuntime) {
         &[
             (Top, Ok(0)),
             (Held, Ok(0)),
-            (Take(4), Err(4)),
+            (Take(4), Err(Misfit)),
             (Wipe, Ok(0)),
         ],
     );
@@ -405,13 +405,13 @@ fn charges_over_a_pair_to_the_top(rt: HostRuntime) {
     follow(
         &rt,
         &mut Pair::new(first, Even::new(2)),
-        &[(Top, Ok(0)), (Take(4), Err(4))],
+        &[(Top, Ok(0)), (Take(4), Err(Misfit))],
     );
     let second = Charge::new(Even::new(2), 133_956_607);
     follow(
         &rt,
         &mut Pair::new(Ceiling::new(), second),
-        &[(Top, Ok(0)), (Take(4), Err(4))],
+        &[(Top, Ok(0)), (Take(4), Err(Misfit))],
     );
 }
 
@@ -424,19 +424,19 @@ fn pair_moves_together(rt: HostRuntime) {
         &[
             (Top, Ok(36_028_247_263_411_201)),
             (Take(2), Ok(1)),
-            (Take(1), Err(3)),
-            (Take(65_536), Err(2)),
+            (Take(1), Err(ReadingFalls)),
+            (Take(65_536), Err(ReadingTooGreat)),
             (Take(3), Ok(2)),
             (Take(3), Ok(3)),
             (Weigh(0, 2), Ok(1_073_741_824)),
             (Weigh(0, 3), Ok(1_073_741_825)),
             (Level(0, 3), Ok(3)),
-            (Weigh(1, 4), Err(8)),
+            (Weigh(1, 4), Err(NoSuchPlace)),
             (Count, Ok(2)),
             (DropLast, Ok(2)),
             (Take(8), Ok(3)),
             (Wipe, Ok(0)),
-            (DropLast, Err(5)),
+            (DropLast, Err(NothingHeld)),
             (Take(0), Ok(1)),
         ],
     );
@@ -449,12 +449,12 @@ fn pair_moves_together(rt: HostRuntime) {
         &[
             (Held, Ok(0)),
             (Top, Ok(0)),
-            (Take(70_000), Err(4)),
-            (DropLast, Err(5)),
-            (Weigh(0, 1), Err(8)),
-            (Level(0, 1), Err(8)),
+            (Take(70_000), Err(Misfit)),
+            (DropLast, Err(NothingHeld)),
+            (Weigh(0, 1), Err(NoSuchPlace)),
+            (Level(0, 1), Err(NoSuchPlace)),
             (Wipe, Ok(0)),
-            (Verdict(6), Err(4)),
+            (Verdict(6), Err(Misfit)),
         ],
     );
     // the second's verdict, where the first has none
@@ -464,7 +464,7 @@ fn pair_moves_together(rt: HostRuntime) {
         &rt,
         &mut short,
         &[
-            (Take(0), Err(1)),
+            (Take(0), Err(Full)),
             (Held, Ok(4)),
             (Weigh(0, 4), Ok(9_663_676_425)),
         ],
@@ -483,7 +483,7 @@ fn a_weighing_from_outside(rt: HostRuntime) {
             (Count, Ok(GREATEST_COUNT)),
             (Weigh(1, 4), Ok(4)),
             (Count, Ok(GREATEST_COUNT)),
-            (Take(0), Err(1)),
+            (Take(0), Err(Full)),
         ],
     );
     let mut charged = Charge::new(stairs, 10);
@@ -498,7 +498,7 @@ fn a_weighing_from_outside(rt: HostRuntime) {
         ],
     );
     let mut pair = Pair::new(charged, Stairs::new(0));
-    follow(&rt, &mut pair, &[(Top, Ok(0)), (Take(1), Err(4))]);
+    follow(&rt, &mut pair, &[(Top, Ok(0)), (Take(1), Err(Misfit))]);
     let mut both = Pair::new(Charge::new(Stairs::new(0), 10), Stairs::new(5));
     follow(
         &rt,
