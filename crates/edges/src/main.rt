@@ -1,14 +1,13 @@
 //! What a fit takes at its edges: the greatest reading and the first too great, the last reading that it has room for and the next.
 #![tactic(auto)]
 
-use division::table::{MOST_READINGS, MOST_SPANS};
+use division::table::MOST_SPANS;
 use fit::fit::Fit;
 use refusal::Refusal;
 use rising::ceiling::Ceiling;
 use std::io;
+use weighing::verdict::{GREATEST_READING, MOST_READINGS};
 use weighing::weighing::Weighing;
-
-const GREATEST_READING: u32 = 65_535;
 
 /// Says how a take was answered.
 fn say(rt: &HostRuntime, answer: Result<usize, Refusal>) -> io::Result<()> {
