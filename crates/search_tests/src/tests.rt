@@ -219,14 +219,16 @@ fn untouched(list: &[usize], from: usize) -> bool {
 
 /// The leftmost least column of a row of a strip, by a plain scan of all its columns.
 fn scanned(sheet: &mut Blocks, strip: Strip, row: usize) -> Result<usize, Refusal> {
-    let mut least = sheet.entry(row, strip.column)?;
+    let mut best = strip.column;
+    let mut least = sheet.entry(row, best)?;
     for column in strip.column..strip.column.saturating_add(strip.columns) {
         let here = sheet.entry(row, column)?;
         if <Blocks as Sheet>::precedes(&here, &least) {
+            best = column;
             least = here;
         }
     }
-    Ok(least.column)
+    Ok(best)
 }
 
 #[test]
