@@ -31,6 +31,7 @@ impl<W: Weighing> Charge<W> {
         Charge { inner, charge }
     }
 
+    // Asked anew by each call. Where a misfit answers 0 and no refusal, `if` and `else` say so most plainly.
     fn fits(&self) -> bool
         ensures value { result ≡ charge_fits W.Weighing self.now }
     {

@@ -141,6 +141,7 @@ impl Table {
         ensures rest { drop s ends.new ≡ drop s ends.old }
     {
         let mut j = n;
+        // by number: of elements that an iterator lends to be written, a proof learns no value
         for i in (0..s).rev() {
             ends[i] = j;
             j = self.cut(i + 1, j);

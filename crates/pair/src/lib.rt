@@ -36,6 +36,7 @@ impl<F: Weighing, S: Weighing> Pair<F, S> {
         Pair { first, second }
     }
 
+    // Asked anew by each call. Where a misfit answers 0 and no refusal, `if` and `else` say so most plainly.
     fn fits(&self) -> bool
         ensures value { result ≡ pair_fits F.Weighing S.Weighing self.now }
     {

@@ -47,6 +47,7 @@ pub(crate) fn lower<S: Sheet>(sheet: &mut S, work: &mut [usize], strip: Strip) -
     ensures after { Lowered S.Sheet sheet.old sheet.new strip result work.old work.new }
 {
     let mut stride = 1;
+    // a stride doubles, so this counts no places
     while stride <= strip.rows / 2 {
         deepen(sheet, work, strip, stride);
         stride *= 2;
@@ -69,6 +70,7 @@ pub(crate) fn raise<S: Sheet>(
     ensures after { Raised S.Sheet sheet.old sheet.new strip answers.old answers.new }
 {
     let mut stride = last;
+    // back over the strides, by halves, to that of the first level
     loop {
         let level = Level::at(strip, stride);
         fill(sheet, level.kept(work), level, answers);

@@ -31,6 +31,8 @@ pub mod strip;
 ///
 /// Refused where the strip has no row or column or passes the sheet's edge, then where `answers` has
 /// fewer places than the strip has rows or `work` fewer than four times as many.
+// Two lists that the caller lends, as each has its own number of places to show; one struct of both would also have to
+// promise that it still holds the caller's two.
 pub fn search<S: Sheet>(
     sheet: &mut S,
     strip: Strip,

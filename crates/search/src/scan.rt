@@ -47,6 +47,7 @@ pub(crate) fn fill<S: Sheet>(sheet: &mut S, kept: &[usize], level: Level, answer
     ensures after { Filled S.Sheet sheet.old sheet.new level.strip level.stride (length kept.now) answers.old answers.new }
 {
     let mut place = 0;
+    // by number: a row's answer is written between two that are read in the same list, which no iterator lends
     for p in 0..level.rows.div_ceil(2) {
         let at = (2 * p + 1) * level.stride - 1;
         let last = if 2 * p + 1 < level.rows {
