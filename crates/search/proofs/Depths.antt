@@ -49,6 +49,10 @@ module _ {S E : Type 0} (m : Ghosts S E) (s : S) (strip : Strip) where
 pub of_level : (P : Strip → ℕ → Type 0) {a b : Strip} {i j : ℕ} → a ≡ b → i ≡ j → P a i → P b j
 of_level P {a} {j = j} e f p = subst (λ x. P x j) e (subst (P a) f p)
 
+-- as where its room begins
+pub base_is : {base : ℕ} {a b : Strip} {i j : ℕ} → a ≡ b → i ≡ j → base ≡ base_of a i → base ≡ base_of b j
+base_is {base} = of_level (λ a i. base ≡ base_of a i)
+
 -- what was written elsewhere leaves a level's columns
 pub kept_same : {S E : Type 0} (m : Ghosts S E) (s : S) (strip : Strip) (stride : ℕ) (old new : List ℕ) (most : ℕ) → base_of strip stride + strip.rows / stride < most → ((j : ℕ) → j < most → nth new j ≡ nth old j) → Kept m s strip stride old → Kept m s strip stride new
 kept_same m s strip stride old new most l e k =

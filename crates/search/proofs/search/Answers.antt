@@ -11,7 +11,7 @@ use Rattle.search.proofs.search.Goals.{After-start}
 -- what the strip's test found, of the sheet
 fits : (g : given.Over) (c : After-start g) → Fits g.S.Sheet c.args.sheet.now c.args.strip
 fits g c =
-    let i = c.if-not-lies_in.ensures.yes refl in
+    let i = c.if-not-lies_in.ensures.decides.0 refl in
     let a = c.rows.ensures.value in
     let b = c.columns.ensures.value in
     let rows = i.rows_in in
