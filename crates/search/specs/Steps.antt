@@ -1,5 +1,5 @@
 -- What each step of the search leaves.
-use Rattle.std.specs.Prelude.{◌≡◌, ℕ, ◌+◌, ◌-◌, ◌*◌, ◌/◌, ◌^◌, ◌<◌, ◌≤◌, false, List, length, slice_index}
+use Rattle.std.specs.Prelude.{◌≡◌, ℕ, ◌+◌, ◌-◌, ◌*◌, ◌/◌, ◌<◌, ◌≤◌, false, List, length, slice_index}
 use Rattle.search.specs.declared.sheet.Sheet.{Ghosts}
 use Rattle.search.specs.declared.strip.Strip.{Strip}
 use Rattle.search.specs.declared.level.Level.{Level}

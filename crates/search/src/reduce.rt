@@ -42,6 +42,7 @@ fn driven<S: Sheet>(sheet: &mut S, room: &[usize], level: Level, len: usize, col
     requires inside { Column (grid_of S.Sheet sheet.old level) column }
     ensures after { Driven S.Sheet sheet.old sheet.new level room.now len column result }
 {
+    // no `rfind`: its closure changes the sheet at each call, and would have to promise all that the loop's invariant says
     for top in (0..len).rev() {
         if !beats(sheet, level.row(top), room[top], column) {
             return top + 1;

@@ -1,6 +1,6 @@
-use Rattle.std.proofs.Common.{◌≡◌, ℕ, ◌+◌, ◌*◌, ◌/◌, ◌%◌, ◌^◌, ◌<◌, ◌≤◌, sym, ap, refl, ◌∙◌, subst, arith, pow_pos}
+use Rattle.std.proofs.Common.{◌≡◌, ℕ, ◌+◌, ◌*◌, ◌/◌, ◌%◌, ◌^◌, ◌≤◌, sym, ap, refl, ◌∙◌, subst, arith, pow_pos}
 use Rattle.std.proofs.lemmas.Nat.{one_shl}
-use Rattle.search.specs.Levels.{Kept, every, many, nth, from, base_of}
+use Rattle.search.specs.Levels.{Kept, every}
 use Rattle.search.specs.Steps.{Deepened}
 use Rattle.search.proofs.Reading.{read_none, read_more}
 use Rattle.search.proofs.Depths.{halved, next_level, one_more, pow_next}

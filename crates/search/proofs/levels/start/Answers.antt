@@ -3,7 +3,7 @@ use Rattle.std.proofs.iter.Yields.{Range-gives}
 use Rattle.std.specs.List.{range_with_len}
 use Rattle.search.specs.Search.{Fits}
 use Rattle.search.specs.Grid.{Holds}
-use Rattle.search.specs.Levels.{nth, every, base_of}
+use Rattle.search.specs.Levels.{nth, every}
 use Rattle.search.specs.Steps.{Reduced}
 use Rattle.search.proofs.Depths.{of_level, base_is, made}
 use Rattle.search.proofs.Lists.{all_columns}
