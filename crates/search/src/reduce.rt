@@ -33,7 +33,7 @@ fn beats<S: Sheet>(sheet: &mut S, row: usize, left: usize, right: usize) -> bool
 }
 
 // The stack stands in the room that is lent, with nothing on a heap: so its length goes beside the room.
-// The three are in no struct either, which would have to promise at each step that it keeps sheet, room and level.
+// Sheet, room and level are in no struct, which would have to promise at each step that it keeps the three.
 
 /// How many columns of the stack are left once `column` has driven out those on top that it beats.
 fn driven<S: Sheet>(sheet: &mut S, room: &[usize], level: Level, len: usize, column: usize) -> usize
