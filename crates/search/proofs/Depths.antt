@@ -1,13 +1,13 @@
 -- From a level to the one with twice its stride: its rows are every second row, and its columns stand behind those of the levels above.
-use Rattle.std.proofs.Common.{◌≡◌, ℕ, ◌+◌, ◌-◌, ◌*◌, ◌/◌, ◌^◌, ◌<◌, ◌≤◌, List, ◌++◌, length, get_or, sym, ap, ◌∙◌, subst, ⊎_elim, mul-le-mul_left, pow-suc, le-div_iff_mul-le, div-le_self, div-mul-le_self, div-one, add-one, arith, pow_pos, pow_mono}
-use native.Mathlib.Nat.{div-div-eq-div-mul}
+use Rattle.std.proofs.Common.{◌≡◌, ℕ, ◌+◌, ◌-◌, ◌*◌, ◌/◌, ◌^◌, ◌<◌, ◌≤◌, List, ◌++◌, length, get_or, refl, sym, ap, ◌∙◌, subst, ⊎_elim, mul-le-mul_left, pow-suc, le-div_iff_mul-le, div-le_self, div-mul-le_self, div-one, mul_comm, add-one, arith, pow_pos, pow_mono}
+use Rattle.std.proofs.Math.Nat.{div-div-eq-div-mul, div-eq_of_lt}
 use Rattle.std.proofs.lemmas.Bool.{cases_lt}
 use Rattle.search.specs.declared.sheet.Sheet.{Ghosts}
 use Rattle.search.specs.declared.strip.Strip.{Strip}
 use Rattle.search.specs.Least.{Leftmost}
 use Rattle.search.specs.Search.{Fits, BestInRow, Searched}
 use Rattle.search.specs.Grid.{Answer, Holds, Keeps}
-use Rattle.search.specs.Levels.{Kept, AllKept, Shown, every, nth, from, base_of}
+use Rattle.search.specs.Levels.{Kept, AllKept, OneRow, Shown, every, nth, from, base_of}
 use Rattle.search.specs.Steps.{Read, ReadWithin, Reduced, KeptFrom, KeptBeyond, Filled, Started, Lowered, Raised}
 use Rattle.search.proofs.Grid.{answer_same, keeps_moved}
 use Rattle.search.proofs.Least.{leftmost_same, leftmost_unique}
@@ -28,7 +28,7 @@ pub record Halved (rows stride : ℕ) : Type 0 where
 pub halved : (rows stride : ℕ) → 0 < stride → stride * 2 ≤ rows → Halved rows stride
 halved rows stride pos below =
     let e = sym (div-div-eq-div-mul rows stride 2) in
-    let b = native.Mathlib.Nat.mul_comm stride 2 in
+    let b = mul_comm stride 2 in
     let two : 2 ≤ rows / stride = (le-div_iff_mul-le {k = stride} {x = 2} {y = rows} pos).1 (omega arith) in
     record { all = div-le_self rows stride; two = two; twice = omega arith; one = omega arith; half = e }
 
@@ -49,6 +49,10 @@ module _ {S E : Type 0} (m : Ghosts S E) (s : S) (strip : Strip) where
 pub of_level : (P : Strip → ℕ → Type 0) {a b : Strip} {i j : ℕ} → a ≡ b → i ≡ j → P a i → P b j
 of_level P {a} {j = j} e f p = subst (λ x. P x j) e (subst (P a) f p)
 
+-- as where its room begins
+pub base_is : {base : ℕ} {a b : Strip} {i j : ℕ} → a ≡ b → i ≡ j → base ≡ base_of a i → base ≡ base_of b j
+base_is {base} = of_level (λ a i. base ≡ base_of a i)
+
 -- what was written elsewhere leaves a level's columns
 pub kept_same : {S E : Type 0} (m : Ghosts S E) (s : S) (strip : Strip) (stride : ℕ) (old new : List ℕ) (most : ℕ) → base_of strip stride + strip.rows / stride < most → ((j : ℕ) → j < most → nth new j ≡ nth old j) → Kept m s strip stride old → Kept m s strip stride new
 kept_same m s strip stride old new most l e k =
@@ -60,9 +64,12 @@ kept_same m s strip stride old new most l e k =
 pub shown_keeps : {S E : Type 0} (m : Ghosts S E) (s : S) (strip : Strip) (stride : ℕ) (work columns : List ℕ) → Shown strip stride work columns → Kept m s strip stride work → Keeps (every m s strip stride) (nth columns) (length columns)
 shown_keeps m s strip stride work columns shown k = subst (Keeps (every m s strip stride) (nth columns)) (sym shown.count) (keeps_moved shown.same k)
 
--- the last of all levels, which has a row
-pub last_kept : {S E : Type 0} (m : Ghosts S E) (s : S) (strip : Strip) (work : List ℕ) (stride e : ℕ) → stride ≡ 2 ^ e → AllKept m s strip work e → Kept m s strip stride work
-last_kept m s strip work stride e is all = subst (λ k. Kept m s strip k work) (sym is) (all e (omega arith))
+-- a sheet has few rows, and so a strip of it few levels
+pub few_levels : {S E : Type 0} (m : Ghosts S E) {s : S} {strip : Strip} {d last : ℕ} → Fits m s strip → m.rows s ≤ 512 → OneRow strip last → d ≤ last → d < 64
+few_levels m {d = d} {last = last} fits low one le = ⊎_elim
+    (λ (a : d < 64). a)
+    (λ (b : 64 ≤ d). let up : 2 ^ 10 ≤ 2 ^ last = pow_mono {i = 10} {j = last} (omega arith) in let rows = fits.rows_in in let some = one.some in absurd (omega arith))
+    (cases_lt d 64)
 
 fewer_rows : (rows s t : ℕ) → 0 < s → s ≤ t → rows / t ≤ rows / s
 fewer_rows rows s t pos le =
@@ -72,6 +79,10 @@ fewer_rows rows s t pos le =
 
 pub pow_next : (e : ℕ) → 2 ^ (e + 1) ≡ 2 ^ e * 2
 pow_next e = ap (λ k. 2 ^ k) (add-one e) ∙ pow-suc 2 e
+
+-- above the last level each has at least twice the rows of one
+pub next_level : {d last rows : ℕ} → d < last → 2 ^ last ≤ rows → 2 ^ d * 2 ≤ rows
+next_level {d} {last} l le = let up : 2 ^ (d + 1) ≤ 2 ^ last = pow_mono {i = d + 1} {j = last} (omega arith) in let e = pow_next d in omega arith
 
 -- the room of a level ends before that of any level with at most half its rows
 room_before : (rows n k : ℕ) → n ≤ rows → 0 < n → 2 * k ≤ n → 3 * (rows - n) + n < 3 * (rows - k)
@@ -97,13 +108,6 @@ one_more m s strip old new e le levels same kept d dl = ⊎_elim
     kept_same m s strip (2 ^ d) old new (base_of strip (2 ^ e * 2)) (room_before strip.rows (strip.rows / 2 ^ d) (strip.rows / (2 ^ e * 2)) (div-le_self strip.rows (2 ^ d)) (omega arith) (omega arith)) same (levels d (omega arith)))
     (λ (c : e + 1 ≤ d). let z : e + 1 ≡ d = omega arith in subst (λ k. Kept m s strip k new) (sym (pow_next e) ∙ ap (λ k. 2 ^ k) z) kept)
     (cases_lt d (e + 1))
-
--- a power of two that is not one is twice another
-pub pow_half : (stride e : ℕ) → stride ≡ 2 ^ e → (stride ≡ 1 → ⊥) → (d : ℕ) × (d ≤ e) × (stride ≡ 2 ^ d * 2)
-pow_half stride e se ne = ⊎_elim
-    (λ (a : e < 1). let z : e ≡ 0 = omega arith in absurd (ne (se ∙ ap (λ k. 2 ^ k) z)))
-    (λ (b : 1 ≤ e). let z : e ≡ (e - 1) + 1 = omega arith in (e - 1, omega arith, se ∙ ap (λ k. 2 ^ k) z ∙ pow_next (e - 1)))
-    (cases_lt e 1)
 
 -- the rows of the level of stride 1 are those of the strip
 pub row_one : (i stride : ℕ) → stride ≡ 1 → (i + 1) * stride - 1 ≡ i
@@ -132,6 +136,16 @@ pub record Answered {S E : Type 0} (m : Ghosts S E) (s t : S) (strip : Strip) (s
   pub answers : (i : ℕ) → i < strip.rows / stride → Answer (every m s strip stride) i (get_or new ((i + 1) * stride - 1) 0)
   pub beyond : KeptFrom old new strip.rows
   pub reads : ReadWithin m (3 * (strip.rows / stride)) s t
+
+-- below the last level there is none
+pub none_answered : {S E : Type 0} (m : Ghosts S E) {s : S} {strip : Strip} {last : ℕ} {answers : List ℕ} → OneRow strip last → Read m 0 s s → Answered m s s strip (2 ^ last * 2) answers answers
+none_answered m {strip = strip} {last = last} one r =
+    let none : strip.rows / (2 ^ last * 2) ≡ 0 = div-eq_of_lt one.no_more in
+    record {
+      answers = λ i l. absurd (omega arith);
+      beyond = λ j l. refl;
+      reads = (0, omega arith, r);
+    }
 
 bill : (n more len rows half : ℕ) → n ≤ 3 * half → half ≡ rows / 2 → more + 1 ≤ len + (rows - rows / 2) → len ≤ rows → n + more ≤ 3 * rows
 bill n more len rows half a b c d = omega arith
@@ -164,7 +178,7 @@ module _ {S E : Type 0} (m : Ghosts S E) {s : S} {strip : Strip} (fits : Fits m 
       let columns = fits.columns_in in
       leftmost_same (λ k x y. r.at_same (strip.row + i) k (omega arith) (omega arith)) b
 
-  pub searched : {t u v : S} {stride told : ℕ} {work work' work'' answers answers' : List ℕ} → ((x y z : S) → m.passes x y → m.passes y z → m.passes x z) → m.ledger s ≤ 2 ^ 63 - 1 → Started m s t strip work work' → Lowered m t u strip stride work' work'' → Raised m u v strip answers answers' → told ≡ m.ledger v - m.ledger s → Searched m strip s v answers answers' work work'' told
+  pub searched : {t u v : S} {last told : ℕ} {work work' work'' answers answers' : List ℕ} → ((x y z : S) → m.passes x y → m.passes y z → m.passes x z) → m.ledger s ≤ 2 ^ 63 - 1 → Started m s t strip work work' → Lowered m t u strip last work' work'' → Raised m u v strip answers answers' → told ≡ m.ledger v - m.ledger s → Searched m strip s v answers answers' work work'' told
   searched {answers' = answers'} onward cap a b c told_is =
       let down = within_more m onward {c = 4 * strip.columns + 8 * strip.rows} (omega arith) a.reads b.reads in
       let all = within_more m onward {c = 4 * strip.columns + 12 * strip.rows} (omega arith) down c.reads in

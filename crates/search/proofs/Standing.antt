@@ -1,19 +1,13 @@
 -- A level of a lawful sheet is lawful, and reading the sheet leaves it as it is.
-use Rattle.std.proofs.Common.{◌≡◌, ℕ, ◌+◌, ◌/◌, ◌<◌, Bool, true, sym, arith, div-mul-le_self}
+use Rattle.std.proofs.Common.{◌≡◌, ℕ, ◌+◌, ◌/◌, ◌<◌, Bool, true, false, sym, arith, add-mul, one-mul, div-mul-le_self}
 use Rattle.search.specs.declared.sheet.Sheet.{Ghosts}
 use Rattle.search.specs.declared.strip.Strip.{Strip}
 use Rattle.search.specs.Search.{Fits}
 use Rattle.search.specs.Grid.{Column}
 use Rattle.search.specs.Levels.{every, row_of}
 use Rattle.search.specs.Steps.{HasPlace, Read}
-use Rattle.search.proofs.Least.{WeakOrder}
 use Rattle.search.proofs.Grid.{Lawful, Agree}
 use Rattle.search.proofs.Rows.{times_le, times_pos, row_in}
-
--- the laws of the trait, as a proof has them
-pub record Laws {S E : Type 0} (m : Ghosts S E) : Type 0 where
-  pub order : WeakOrder m.before
-  pub monotone : (s : S) (i j a b : ℕ) → i < j → j < m.rows s → a < b → b < m.columns s → m.before (m.at s i b) (m.at s i a) ≡ true → m.before (m.at s j b) (m.at s j a) ≡ true
 
 pub fits_there : {S E : Type 0} (m : Ghosts S E) {n : ℕ} {s t : S} {strip : Strip} → Read m n s t → Fits m s strip → Fits m t strip
 fits_there m r f =
@@ -46,12 +40,18 @@ module _ {S E : Type 0} (m : Ghosts S E) {s : S} {strip : Strip} {stride : ℕ} 
   pub said_before : {n : ℕ} {t : S} → Read m n s t → (i a b row : ℕ) → i < strip.rows / stride → Column (every m s strip stride) a → Column (every m s strip stride) b → row ≡ row_of strip stride i → (said : Bool) → said ≡ m.before (m.at t row b) (m.at t row a) → m.before (m.at s (row_of strip stride i) b) (m.at s (row_of strip stride i) a) ≡ said
   said_before r i a b row l left right e said h = rw (level_agrees r i a l left, level_agrees r i b l right, ← e) (sym h)
 
-  pub level_lawful : Laws m → Lawful (every m s strip stride)
-  level_lawful laws = record {
-    order = laws.order;
+  -- from the laws of the trait
+  pub level_lawful :
+      ((x : E) → m.before x x ≡ false)
+      → ((x y z : E) → m.before x y ≡ true → m.before y z ≡ true → m.before x z ≡ true)
+      → ((x y z : E) → m.before x y ≡ false → m.before y z ≡ false → m.before x z ≡ false)
+      → ((s : S) (i j a b : ℕ) → i < j → j < m.rows s → a < b → b < m.columns s → m.before (m.at s i b) (m.at s i a) ≡ true → m.before (m.at s j b) (m.at s j a) ≡ true)
+      → Lawful (every m s strip stride)
+  level_lawful irreflexive transitive weak monotone = record {
+    order = record { irreflexive = irreflexive; transitive = transitive; weak = weak };
     monotone = λ i j a b ij jn col ab t.
         let p = level_place j b jn col in
-        laws.monotone s (row_of strip stride i) (row_of strip stride j) a b (rises i j ij) p.row_in ab p.column_in t;
+        monotone s (row_of strip stride i) (row_of strip stride j) a b (rises i j ij) p.row_in ab p.column_in t;
   }
     where
       rises : (i j : ℕ) → i < j → row_of strip stride i < row_of strip stride j
@@ -59,6 +59,6 @@ module _ {S E : Type 0} (m : Ghosts S E) {s : S} {strip : Strip} {stride : ℕ} 
           let a = times_le (i + 1 + 1) (j + 1) stride (omega arith) in
           let b = times_pos i stride step in
           let c = row_in i (i + 1 + 1) stride step (omega arith) in
-          let d = native.Mathlib.Nat.add-mul (i + 1) 1 stride in
-          let e = native.Mathlib.Nat.one-mul stride in
+          let d = add-mul (i + 1) 1 stride in
+          let e = one-mul stride in
           omega arith

@@ -47,6 +47,11 @@ Kept m s strip stride work = Keeps (every m s strip stride) (from work (base_of 
 abbrev pub AllKept : {S E : Type 0} → Ghosts S E → S → Strip → List ℕ → ℕ → Type 0
 AllKept m s strip work e = (d : ℕ) → d ≤ e → Kept m s strip (2 ^ d) work
 
+-- the level of stride 2^e has one row, so none is below it
+pub record OneRow (strip : Strip) (e : ℕ) : Type 0 where
+  pub some : 2 ^ e ≤ strip.rows
+  pub no_more : strip.rows < 2 ^ e * 2
+
 -- the strip lies inside the sheet, and there is room for the columns of all its levels
 pub record Ready {S E : Type 0} (m : Ghosts S E) (s : S) (strip : Strip) (work : List ℕ) : Type 0 where
   pub fits : Fits m s strip

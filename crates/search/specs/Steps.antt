@@ -1,5 +1,5 @@
 -- What each step of the search leaves.
-use Rattle.std.specs.Prelude.{◌≡◌, ℕ, ◌+◌, ◌-◌, ◌*◌, ◌/◌, ◌^◌, ◌<◌, ◌≤◌, false, List, length, slice_index}
+use Rattle.std.specs.Prelude.{◌≡◌, ℕ, ◌+◌, ◌-◌, ◌*◌, ◌/◌, ◌<◌, ◌≤◌, false, List, length, slice_index}
 use Rattle.search.specs.declared.sheet.Sheet.{Ghosts}
 use Rattle.search.specs.declared.strip.Strip.{Strip}
 use Rattle.search.specs.declared.level.Level.{Level}
@@ -7,7 +7,7 @@ use Rattle.search.specs.Reading.{Place, Reads}
 use Rattle.search.specs.Least.{Leftmost}
 use Rattle.search.specs.Search.{Fits, BestInRow}
 use Rattle.search.specs.Grid.{Grid, Answer, Stack, Keeps}
-use Rattle.search.specs.Levels.{nth, every, base_of, Kept, AllKept}
+use Rattle.search.specs.Levels.{nth, every, base_of, Kept, AllKept, OneRow}
 
 abbrev pub HasPlace : {S E : Type 0} → Ghosts S E → S → ℕ → ℕ → Type 0
 HasPlace m s row column = Place m.rows m.columns s row column
@@ -87,10 +87,10 @@ pub record Started {S E : Type 0} (m : Ghosts S E) (s t : S) (strip : Strip) (ol
   pub beyond : KeptBeyond strip old new
   pub reads : ReadWithin m (4 * strip.columns) s t
 
--- all levels, of which that of `stride` is the last
-pub record Lowered {S E : Type 0} (m : Ghosts S E) (s t : S) (strip : Strip) (stride : ℕ) (old new : List ℕ) : Type 0 where
-  pub last : strip.rows < stride * 2
-  pub levels : (e : ℕ) × (stride ≡ 2 ^ e) × AllKept m s strip new e
+-- all levels, of which that of stride 2^e is the last
+pub record Lowered {S E : Type 0} (m : Ghosts S E) (s t : S) (strip : Strip) (e : ℕ) (old new : List ℕ) : Type 0 where
+  pub one : OneRow strip e
+  pub levels : AllKept m s strip new e
   pub beyond : KeptBeyond strip old new
   pub reads : ReadWithin m (8 * strip.rows) s t
 

@@ -1,6 +1,6 @@
 //! The levels of a search, made downwards by reducing and answered upwards by scanning.
 ghost use Rattle.std.specs.Prelude.{◌≡◌, ℕ, ◌+◌, ◌-◌, ◌*◌, ◌/◌, ◌^◌, ◌<◌, ◌≤◌, length};
-ghost use Rattle.search.specs.Levels.{Ready, Kept, AllKept};
+ghost use Rattle.search.specs.Levels.{Ready, Kept, AllKept, OneRow};
 ghost use Rattle.search.specs.Steps.{Started, Deepened, Lowered, Raised};
 
 use crate::level::Level;
@@ -40,19 +40,17 @@ fn deepen<S: Sheet>(sheet: &mut S, work: &mut [usize], strip: Strip, stride: usi
     reduce(sheet, room, level, columns);
 }
 
-/// Makes all levels below the first, and answers the stride of the last, which has one row.
-pub(crate) fn lower<S: Sheet>(sheet: &mut S, work: &mut [usize], strip: Strip) -> usize
+/// Makes all levels below the first, each with twice the stride of the one before, and answers how many these are: the last has one row.
+pub(crate) fn lower<S: Sheet>(sheet: &mut S, work: &mut [usize], strip: Strip) -> u32
     requires ready { Ready S.Sheet sheet.old strip work.old }
     requires kept { Kept S.Sheet sheet.old strip 1 work.old }
     ensures after { Lowered S.Sheet sheet.old sheet.new strip result work.old work.new }
 {
-    let mut stride = 1;
-    // a stride doubles, so this counts no places
-    while stride <= strip.rows / 2 {
-        deepen(sheet, work, strip, stride);
-        stride *= 2;
+    let last = strip.rows.ilog2();
+    for depth in 0..last {
+        deepen(sheet, work, strip, 1 << depth);
     }
-    stride
+    last
 }
 
 /// Answers the rows of all levels, from the last one up to the first.
@@ -60,23 +58,17 @@ pub(crate) fn raise<S: Sheet>(
     sheet: &mut S,
     work: &[usize],
     strip: Strip,
-    last: usize,
+    last: u32,
     answers: &mut [usize],
 )
     requires ready { Ready S.Sheet sheet.old strip work.now }
     requires long { strip.rows ≤ length answers.old }
-    requires levels { (e : ℕ) × (last ≡ 2 ^ e) × AllKept S.Sheet sheet.old strip work.now e }
-    requires end { strip.rows < last * 2 }
+    requires levels { AllKept S.Sheet sheet.old strip work.now last }
+    requires one { OneRow strip last }
     ensures after { Raised S.Sheet sheet.old sheet.new strip answers.old answers.new }
 {
-    let mut stride = last;
-    // back over the strides, by halves, to that of the first level
-    loop {
-        let level = Level::at(strip, stride);
+    for depth in (0..=last).rev() {
+        let level = Level::at(strip, 1 << depth);
         fill(sheet, level.kept(work), level, answers);
-        if stride == 1 {
-            return;
-        }
-        stride /= 2;
     }
 }

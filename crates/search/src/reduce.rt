@@ -33,6 +33,7 @@ fn beats<S: Sheet>(sheet: &mut S, row: usize, left: usize, right: usize) -> bool
 }
 
 // The stack stands in the room that is lent, with nothing on a heap: so its length goes beside the room.
+// Sheet, room and level are in no struct, which would have to promise at each step that it keeps the three.
 
 /// How many columns of the stack are left once `column` has driven out those on top that it beats.
 fn driven<S: Sheet>(sheet: &mut S, room: &[usize], level: Level, len: usize, column: usize) -> usize
@@ -41,6 +42,7 @@ fn driven<S: Sheet>(sheet: &mut S, room: &[usize], level: Level, len: usize, col
     requires inside { Column (grid_of S.Sheet sheet.old level) column }
     ensures after { Driven S.Sheet sheet.old sheet.new level room.now len column result }
 {
+    // no `rfind`: its closure changes the sheet at each call, and would have to promise all that the loop's invariant says
     for top in (0..len).rev() {
         if !beats(sheet, level.row(top), room[top], column) {
             return top + 1;

@@ -26,6 +26,7 @@ fn least_of<S: Sheet>(sheet: &mut S, columns: &[usize], row: usize) -> usize
     requires places { (j : ℕ) → j < length columns.now → HasPlace S.Sheet sheet.old row (nth columns.now j) }
     ensures after { Scanned S.Sheet sheet.old sheet.new columns.now row result }
 {
+    // no `min_by_key`: a read changes the sheet, and its entries have an order of their own
     let mut best = columns[0];
     let mut least = read(sheet, row, best);
     for column in &columns[1..] {

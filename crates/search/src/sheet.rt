@@ -5,6 +5,12 @@ ghost use Rattle.search.specs.Reading.{Place, Reads};
 
 use refusal::Refusal;
 
+/// A sheet has at most so many rows.
+pub const MOST_ROWS: usize = 512;
+
+/// A sheet has at most so many columns.
+pub const MOST_COLUMNS: usize = 1023;
+
 /// A sheet has rows and columns, an entry at each place, an order of its entries, a ledger of how
 /// many entries were read, and a passing between its states that its maker chooses.
 pub trait Sheet {

@@ -8,11 +8,7 @@ ghost use Rattle.std.proofs.Common.{rules};
 
 use counter::Counter;
 use refusal::Refusal;
-use search::sheet::Sheet;
-
-const MOST_ROWS: usize = 512;
-
-const MOST_COLUMNS: usize = 1023;
+use search::sheet::{MOST_COLUMNS, MOST_ROWS, Sheet};
 
 /// How many rows and columns a sheet has, `tall` rows and `wide` columns to a block.
 #[derive(Clone, Copy)]

@@ -40,18 +40,12 @@ const LARGEST: Shape = Shape {
     wide: 1,
 };
 
-const LARGEST_IN_PAIRS: Shape = Shape {
-    rows: 512,
-    columns: 1023,
-    tall: 1,
-    wide: 2,
-};
+const LARGEST_IN_PAIRS: Shape = Shape { wide: 2, ..LARGEST };
 
 const LARGEST_LEVEL: Shape = Shape {
-    rows: 512,
-    columns: 1023,
     tall: 512,
     wide: 1023,
+    ..LARGEST
 };
 
 const TALL_BLOCKS: Shape = Shape {
@@ -293,6 +287,7 @@ fn short_lists_are_refused(rt: HostRuntime) -> Result<(), Fail> {
 
 #[test]
 fn a_full_ledger_rises_no_further(rt: HostRuntime) -> Result<(), Fail> {
+    // written out: a test takes no bound from the code
     let most = (1u64 << 63) - 1;
     for left in [0u64, 4] {
         let case = Case::with_spare(SQUARED_GAP, [0, 9, 0, 7], 0);

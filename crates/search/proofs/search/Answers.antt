@@ -11,7 +11,7 @@ use Rattle.search.proofs.search.Goals.{After-start}
 -- what the strip's test found, of the sheet
 fits : (g : given.Over) (c : After-start g) → Fits g.S.Sheet c.args.sheet.now c.args.strip
 fits g c =
-    let i = c.if-not-lies_in.ensures.yes refl in
+    let i = c.if-not-lies_in.ensures.decides.0 refl in
     let a = c.rows.ensures.value in
     let b = c.columns.ensures.value in
     let rows = i.rows_in in
@@ -30,7 +30,7 @@ raise-requires-clause-levels g c =
     let m = g.S.Sheet in
     let started = fits_there m c.start.ensures.after.reads.2 (fits g (goal.at.raise-requires-clause-levels g c).After-start) in
     let l = c.lower-last.ensures.after in
-    (l.levels.0, l.levels.1, λ d h. keeps_same (every m c.start.new.sheet c.args.strip (2 ^ d)) (level_agrees m (pow_pos d) started l.reads.2) (l.levels.2 d h))
+    λ d h. keeps_same (every m c.start.new.sheet c.args.strip (2 ^ d)) (level_agrees m (pow_pos d) started l.reads.2) (l.levels d h)
 
 told : {a b x y : ℕ} → a ≡ x → b ≡ y → a - b ≡ x - y
 told p q = omega arith

@@ -6,7 +6,7 @@ use Rattle.search.specs.Search.{Fits}
 use Rattle.search.specs.Grid.{Holds, Keeps}
 use Rattle.search.specs.Levels.{Kept, Shown, nth, every, base_of, many}
 use Rattle.search.specs.Steps.{Reduced}
-use Rattle.search.proofs.Depths.{halved, of_level, made, holds_below, kept_before, shown_keeps}
+use Rattle.search.proofs.Depths.{halved, of_level, base_is, made, holds_below, kept_before, shown_keeps}
 use Rattle.search.proofs.levels.deepen.Given as given
 use Rattle.search.proofs.levels.deepen.Goals as goal
 use Rattle.search.proofs.levels.deepen.Goals.{After-split_at_mut-front, After-copied-columns}
@@ -16,7 +16,7 @@ before : (g : given.Over) (c : After-split_at_mut-front g) → Kept g.S.Sheet c.
 before g c =
     let split = c.split_at_mut-front.ensures in
     let is = c.at-level.ensures in
-    kept_before g.S.Sheet c.args.sheet.now c.args.strip c.args.stride c.args.work.now c.split_at_mut-front.result.0.now c.split_at_mut-front.result.1.now c.requires.step c.requires.below split.value (split.front_len ∙ of_level (λ a i. c.base-base.result ≡ base_of a i) is.strip is.stride c.base-base.ensures) c.requires.kept
+    kept_before g.S.Sheet c.args.sheet.now c.args.strip c.args.stride c.args.work.now c.split_at_mut-front.result.0.now c.split_at_mut-front.result.1.now c.requires.step c.requires.below split.value (split.front_len ∙ base_is is.strip is.stride c.base-base.ensures) c.requires.kept
 
 pub kept-requires : goal.kept-requires
 kept-requires g c =
@@ -46,7 +46,7 @@ reduce-requires g c κs within =
     let kept = shown g (goal.at.reduce-requires g c).After-copied-columns (before g (goal.at.reduce-requires g c).After-split_at_mut-front).0 in
     let columns = iter_rest (copied_source c.copied-columns.result) in
     let holds = holds_below m s strip stride (length columns) (nth columns) h.twice kept.holds in
-    let is_base : c.base-base.result ≡ base_of strip (stride * 2) = of_level (λ a i. c.base-base.result ≡ base_of a i) is.strip is.stride c.base-base.ensures in
+    let is_base = base_is is.strip is.stride c.base-base.ensures in
     let rows : c.at-level.result.rows ≡ strip.rows / (stride * 2) = of_level (λ a i. c.at-level.result.rows ≡ a.rows / i) is.strip is.stride c.at-level.result.whole in
     (within.0, ((λ a l. search rules), (within.1, (record { fits = subst (λ x. Fits m s x) (sym is.strip) c.requires.ready.fits; long = omega (arith, c.split_at_mut-front.ensures.back_len, c.requires.ready.room, h.all, h.twice, h.one) }, (tt, (tt, (Copied-slice _, of_level (λ a i. Holds (every m s a i) (nth columns) (length columns)) (sym is.strip) (sym is.stride) holds)))))))
 
@@ -56,7 +56,7 @@ returns g c =
     let s = c.args.sheet.now in
     let strip = c.args.strip in
     let is = c.at-level.ensures in
-    let is_base : c.base-base.result ≡ base_of strip (c.args.stride * 2) = of_level (λ a i. c.base-base.result ≡ base_of a i) is.strip is.stride c.base-base.ensures in
+    let is_base = base_is is.strip is.stride c.base-base.ensures in
     let kept = shown g (goal.at.returns g c).After-copied-columns (before g (goal.at.returns g c).After-split_at_mut-front).0 in
     let few = kept.few in
     let split = c.split_at_mut-front.ensures in

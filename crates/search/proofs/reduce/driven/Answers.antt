@@ -4,13 +4,10 @@ use Rattle.search.specs.Levels.{nth}
 use Rattle.search.specs.Steps.{Read, Driven, grid_of}
 use Rattle.search.proofs.Reading.{read_more}
 use Rattle.search.proofs.Grid.{pop_top, top_column}
-use Rattle.search.proofs.Standing.{Laws, level_lawful, said_before}
+use Rattle.search.proofs.Standing.{level_lawful, said_before}
 use Rattle.search.proofs.reduce.driven.Given as given
 use Rattle.search.proofs.reduce.driven.Goals as goal
 use Rattle.search.proofs.reduce.driven.Goals.{After-row}
-
-laws : (g : given.Over) → Laws g.S.Sheet
-laws g = let met = g.met.S.Sheet in record { order = record { irreflexive = met.irreflexive; transitive = met.transitive; weak = met.weak }; monotone = met.monotone }
 
 -- the topmost column is one of the grid's
 on_top : (g : given.Over) (c : After-row g) → Column (grid_of g.S.Sheet c.args.sheet.now c.args.level) (nth c.args.room.now (c.loop-top.top - 1))
@@ -45,9 +42,10 @@ loop-top-preserved g c =
     let inv = c.loop-top.invariant in
     let some = c.loop-top-test.true in
     let most = c.loop-top.auto.top in
+    let met = g.met.S.Sheet in
     let e : 2 * (c.args.len - c.loop-top.top) + 2 ≡ 2 * (c.args.len - (c.loop-top.top - 1)) = omega arith in
     let answer = c.if-not-beats.ensures in (
-      pop_top (level_lawful m c.args.level.step c.requires.stands.fits (laws g)) (nth c.args.room.now) c.loop-top.top c.args.column some inv.0 c.requires.inside (said g (goal.at.loop-top-preserved g c).After-row _ answer.value),
+      pop_top (level_lawful m c.args.level.step c.requires.stands.fits met.irreflexive met.transitive met.weak met.monotone) (nth c.args.room.now) c.loop-top.top c.args.column some inv.0 c.requires.inside (said g (goal.at.loop-top-preserved g c).After-row _ answer.value),
       subst (λ k. Read m k c.args.sheet.now c.beats.new.sheet) e (read_more m g.met.S.Sheet.onward inv.1 answer.after),
     )
 

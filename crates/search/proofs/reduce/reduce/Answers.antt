@@ -6,15 +6,12 @@ use Rattle.search.specs.Levels.{nth}
 use Rattle.search.specs.Steps.{grid_of}
 use Rattle.search.proofs.Reading.{read_none, read_more}
 use Rattle.search.proofs.Kept.{upto, upto_in, first_offered, next_offered, upto_end}
-use Rattle.search.proofs.Standing.{Laws, level_lawful, level_agrees, agrees_back}
+use Rattle.search.proofs.Standing.{level_lawful, level_agrees, agrees_back}
 use Rattle.search.proofs.Grid.{stack_same}
 use Rattle.search.proofs.Lists.{counted, given_next, given_all}
 use Rattle.search.proofs.reduce.reduce.Given as given
 use Rattle.search.proofs.reduce.reduce.Goals as goal
 use Rattle.search.proofs.reduce.reduce.Goals.{In-Some}
-
-laws : (g : given.Over) → Laws g.S.Sheet
-laws g = let met = g.met.S.Sheet in record { order = record { irreflexive = met.irreflexive; transitive = met.transitive; weak = met.weak }; monotone = met.monotone }
 
 -- Behind the lifetimes `requires` has the clauses in their order: stands, can, ends, gives and holds.
 
@@ -82,12 +79,13 @@ returns g c =
     let it = c.into_iter-column-iterator in
     let fits = c.requires.1.1.1.0.fits in
     let room = c.requires.1.1.1.0.long in
+    let met = g.met.S.Sheet in
     let gives = subst (λ s. AlwaysYields steps {B = ℕ} (λ x. x) s g.offered) (sym it.ensures.into_iter_gives) c.requires.1.1.1.1.1.1.0 in
     let all = given_all steps it.result g.offered gives c.loop-column.yielded (c.next.new.self, (c.loop-column.column-iterator, c.loop-column.yielded_by, c.in-None.ensures.steps)) in
     let G = grid_of m c.args.sheet.now level in
     let end = upto_end (nth g.offered) (level.strip.column + level.strip.columns) (length g.offered) (length c.loop-column.yielded) (omega (arith, all)) in
     let stack = subst (λ x. Stack G (nth c.loop-column.room) c.loop-column.len x) end inv.0 in
-    let kept = counted (level_lawful m level.step fits (laws g)) c.loop-column.room c.loop-column.len (omega (arith, level.whole, level.some)) fits.some_column (omega (arith, level.whole, c.loop-column.auto.room)) stack in
+    let kept = counted (level_lawful m level.step fits met.irreflexive met.transitive met.weak met.monotone) c.loop-column.room c.loop-column.len (omega (arith, level.whole, level.some)) fits.some_column (omega (arith, level.whole, c.loop-column.auto.room)) stack in
     let paid = inv.2.1 in
     record {
       after = record {

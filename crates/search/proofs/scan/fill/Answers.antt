@@ -1,4 +1,4 @@
-use Rattle.std.proofs.Common.{◌≡◌, ℕ, ◌+◌, ◌-◌, ◌*◌, ◌/◌, ◌<◌, ◌≤◌, length, take, get_or, refl, sym, ap, ◌∙◌, subst, arith, div-mul-le_self}
+use Rattle.std.proofs.Common.{◌≡◌, ℕ, ◌+◌, ◌-◌, ◌*◌, ◌/◌, ◌<◌, ◌≤◌, length, take, get_or, refl, sym, ap, ◌∙◌, subst, arith, div-mul-le_self, not-le_of_lt}
 use Rattle.search.specs.Grid.{Grid}
 use Rattle.search.specs.Least.{Leftmost}
 use Rattle.search.specs.Levels.{nth}
@@ -7,14 +7,11 @@ use Rattle.search.proofs.Least.{leftmost_same, leftmost_from}
 use Rattle.search.proofs.Reading.{read_none, read_more, place_there}
 use Rattle.search.proofs.Kept.{not_falling}
 use Rattle.search.proofs.Rows.{row_in, next_row}
-use Rattle.search.proofs.Standing.{Laws, level_lawful, level_place, agrees_back}
+use Rattle.search.proofs.Standing.{level_lawful, level_place, agrees_back}
 use Rattle.search.proofs.Scans.{tail, turn, all_rows, reached, length-run, in_run, half_up, half_done, all_done}
 use Rattle.search.proofs.scan.fill.Given as given
 use Rattle.search.proofs.scan.fill.Goals as goal
 use Rattle.search.proofs.scan.fill.Goals.{After-reach-end, then-p-level, else-p-level}
-
-laws : (g : given.Over) → Laws g.S.Sheet
-laws g = let met = g.met.S.Sheet in record { order = record { irreflexive = met.irreflexive; transitive = met.transitive; weak = met.weak }; monotone = met.monotone }
 
 pub loop-p-init : goal.loop-p-init
 loop-p-init g c =
@@ -58,9 +55,6 @@ bounds-answers-at-in-loop-p g c =
     let lt = turns g (goal.at.bounds-answers-at-in-loop-p g c).After-reach-end in
     omega (arith, row_at c.args.level.strip.rows c.args.level.stride (2 * c.loop-p.p) c.args.level.step lt, c.requires.long, c.loop-p.auto.answers)
 
-not_both : (a b : ℕ) → a < b → b ≤ a → ⊥
-not_both a b p q = omega arith
-
 pub loop-p-preserved : goal.loop-p-preserved
 loop-p-preserved g c =
     let m = g.S.Sheet in
@@ -68,6 +62,7 @@ loop-p-preserved g c =
     let stride = level.stride in
     let whole = level.whole in
     let lt = turns g (goal.at.loop-p-preserved g c).After-reach-end in
+    let met = g.met.S.Sheet in
     let room : level.strip.rows / stride * stride ≤ length c.loop-p.answers = omega (arith, div-mul-le_self level.strip.rows stride, c.requires.long, c.loop-p.auto.answers) in
     let G : Grid g.row.S-Entry.Denot = grid_of m c.args.sheet.now level in
     let kept = c.args.kept.now in
@@ -93,14 +88,14 @@ loop-p-preserved g c =
     let next : 2 * p + 1 < G.rows → last ≡ get_or c.loop-p.answers ((2 * p + 1 + 1) * stride - 1) 0 =
     λ a. elim c.if-p-level.branch [
       | then-p-level w ↦ w.last-is ∙ ap (λ k. get_or c.loop-p.answers k 0) (next_row (2 * p) stride level.step)
-      | else-p-level w ↦ absurd (not_both (2 * p + 1) level.rows (omega arith) w.if-p-level.false)
+      | else-p-level w ↦ absurd (not-le_of_lt {n = level.rows} {m = 2 * p + 1} (omega arith) w.if-p-level.false)
     ] in
     let final : G.rows ≤ 2 * p + 1 → last ≡ st (length kept - 1) =
     λ a. elim c.if-p-level.branch [
-      | then-p-level w ↦ absurd (not_both (2 * p + 1) level.rows w.if-p-level.true (omega arith))
+      | then-p-level w ↦ absurd (not-le_of_lt {n = level.rows} {m = 2 * p + 1} w.if-p-level.true (omega arith))
       | else-p-level w ↦ w.last-is
     ] in
-    let t = turn (level_lawful m level.step c.requires.fits (laws g)) holds stride level.step c.loop-p.answers p place last c.least_of.result (place + end) lt room inv.2 inv.3 (omega arith) to.0 to.1 to.2 least next final c.args.answers.now inv.1 inv.4 in (
+    let t = turn (level_lawful m level.step c.requires.fits met.irreflexive met.transitive met.weak met.monotone) holds stride level.step c.loop-p.answers p place last c.least_of.result (place + end) lt room inv.2 inv.3 (omega arith) to.0 to.1 to.2 least next final c.args.answers.now inv.1 inv.4 in (
       to.0,
       t.0,
       t.1,
@@ -114,6 +109,7 @@ returns g c =
     let level = c.args.level in
     let whole = level.whole in
     let inv = c.loop-p.invariant in
+    let met = g.met.S.Sheet in
     let few = inv.0 in
     let paid = inv.5.1 in
     let is = c.div_ceil-p-end.ensures in
@@ -121,7 +117,7 @@ returns g c =
     let all = all_done level.rows c.loop-p.p (omega (arith, c.loop-p-test.false)) in
     record {
       after = record {
-        answers = all_rows (level_lawful g.S.Sheet level.step c.requires.fits (laws g)) c.requires.keeps.holds level.stride level.step c.loop-p.answers c.loop-p.p (omega arith) inv.1 inv.2;
+        answers = all_rows (level_lawful g.S.Sheet level.step c.requires.fits met.irreflexive met.transitive met.weak met.monotone) c.requires.keeps.holds level.stride level.step c.loop-p.answers c.loop-p.p (omega arith) inv.1 inv.2;
         beyond = inv.4;
         reads = (inv.5.0, omega arith, inv.5.2);
       };
