@@ -39,6 +39,7 @@ impl<W: Weighing> Charge<W> {
     }
 }
 
+// What a call leaves as it was stands at each call: an invariant knows no state before.
 impl<W: Weighing> Weighing for Charge<W> {
     ghost held = { (charged W.Weighing).held };
 

@@ -22,6 +22,7 @@ impl Counter {
     }
 
     /// Done so often already; as often as can be told, where that is more.
+    // not a From: a greater number comes out smaller
     pub fn from_told(told: u64) -> Counter
         ensures value { result.told ≡ min told (2 ^ 63 - 1) }
     {

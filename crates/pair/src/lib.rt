@@ -46,6 +46,7 @@ impl<F: Weighing, S: Weighing> Pair<F, S> {
     }
 }
 
+// What a call leaves as it was stands at each call: an invariant knows no state before.
 impl<F: Weighing, S: Weighing> Weighing for Pair<F, S> {
     ghost held = { (paired F.Weighing S.Weighing).held };
 
