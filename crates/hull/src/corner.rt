@@ -32,6 +32,7 @@ impl Corner {
     }
 
     /// The squared distance to q.
+    #[tactic(auto, using(crate::proofs::Gaps::product_fits))]
     pub(crate) fn distance(self, q: Corner) -> i128
         ensures value { result ≡ distance self q }
     {
@@ -40,6 +41,7 @@ impl Corner {
     }
 
     /// Twice the signed area of the triangle with p and q: positive where the three turn left.
+    #[tactic(auto, using(crate::proofs::Gaps::product_fits))]
     fn turn(self, p: Corner, q: Corner) -> i128
         ensures value { result ≡ turn self p q }
     {
