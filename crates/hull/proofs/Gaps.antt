@@ -7,6 +7,7 @@ use Rattle.hull.specs.declared.corner.Corner.{Corner}
 use Rattle.hull.specs.Plane.{distance, corner_at}
 use Rattle.hull.specs.Convex.{AllNear}
 
+-- the library's `fits_signed_from_abs`, from the bound that is known of a gap
 pub gap_fits : (a : ℤ) → unsigned_abs a < 2 ^ 32 → FitsSigned w128 a
 gap_fits a h = omega (arith, ints)
 
