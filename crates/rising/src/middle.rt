@@ -35,7 +35,8 @@ impl Hold for AtMiddle {
         // the readings after the middle less those before it
         let twice = a + b;
         let ends = u64::from(row.sum_first(a)) + u64::from(row.sum_first(b));
-        let middles = u64::from(row.sum_first(twice / 2)) + u64::from(row.sum_first((twice + 1) / 2));
+        let middles = u64::from(row.sum_first(twice / 2))
+            + u64::from(row.sum_first((twice + 1) / 2));
         ends - middles
     }
 }
