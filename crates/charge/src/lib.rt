@@ -11,9 +11,9 @@ use refusal::Refusal;
 use weighing::rule::require;
 use weighing::weighing::Weighing;
 
-const GREATEST_CHARGE: u64 = 0x1000_0000;
+const GREATEST_CHARGE: u64 = 1 << 28;
 
-const GREATEST_TOP: u64 = 0x7ff_ffff_ffff_ffff;
+const GREATEST_TOP: u64 = (1 << 59) - 1;
 
 /// Adds `charge` to each weight of `inner`; all else is as there. A charge above 2^28, or one that
 /// brings the top above 2^59 - 1, makes a misfit: it holds and takes nothing, and leaves `inner` alone.
@@ -39,6 +39,7 @@ impl<W: Weighing> Charge<W> {
     }
 }
 
+// What a call leaves as it was stands at each call: an invariant knows no state before.
 impl<W: Weighing> Weighing for Charge<W> {
     ghost held = { (charged W.Weighing).held };
 

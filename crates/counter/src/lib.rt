@@ -4,7 +4,7 @@
 ghost use Rattle.std.specs.Prelude.{◌≡◌, ◌-◌, ◌^◌, ◌≤◌, min};
 ghost use Rattle.counter.specs.Counters.{raised};
 
-const GREATEST_COUNT: u64 = 0x7fff_ffff_ffff_ffff;
+const GREATEST_COUNT: u64 = (1 << 63) - 1;
 
 /// How often something was done, up to 2^63 - 1.
 #[derive(Clone, Copy, Drop)]
@@ -22,6 +22,7 @@ impl Counter {
     }
 
     /// Done so often already; as often as can be told, where that is more.
+    // not a From: a greater number comes out smaller
     pub fn from_told(told: u64) -> Counter
         ensures value { result.told ≡ min told (2 ^ 63 - 1) }
     {

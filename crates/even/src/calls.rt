@@ -15,6 +15,7 @@ use weighing::span::check_span;
 use weighing::verdict::{heed, verdict_on};
 use weighing::weighing::Weighing;
 
+// What a call leaves as it was stands at each call: an invariant knows no state before.
 impl Weighing for Even {
     ghost held = { even_meaning.held };
 

@@ -1,7 +1,9 @@
 -- The leftmost least column of row i of a hull's sheet names the corner farthest from corner i.
-use Rattle.std.proofs.Common.{◌≡◌, ℕ, ◌+◌, ◌-◌, ◌*◌, ◌%◌, ◌<◌, ◌≤◌, Bool, ◌⊎◌, List, length, get_or, ℤ, pos, negsuc, ◌-ℤ◌, ◌≤ℤ◌, ◌<ℤ◌, sym, ap, ◌∙◌, subst, inl, inr, mod-lt, zero-add, arith, take, drop, ◌++◌, get_or-take}
+use Rattle.std.proofs.Common.{◌≡◌, ℕ, ◌+◌, ◌-◌, ◌*◌, ◌%◌, ◌<◌, ◌≤◌, Bool, List, length, get_or, ℤ, pos, negsuc, ◌-ℤ◌, ◌≤ℤ◌, ◌<ℤ◌, sym, ap, ◌∙◌, subst, inl, inr, mod-lt, zero-add, arith, take, drop, ◌++◌, get_or-take}
 use Rattle.std.proofs.lemmas.List.{get_or_append_left, get_or-append_right, get_or-drop, length-take-le}
+use Rattle.std.proofs.lemmas.Bool.{cases_order}
 use Rattle.std.proofs.lemmas.Int.{ints}
+use Rattle.std.proofs.Math.Nat.{eq-zero-or-pos}
 use Rattle.std.specs.Int.Signed.{lt_z}
 use Rattle.search.specs.Least.{Leftmost}
 use Rattle.hull.specs.declared.corner.Corner.{Corner}
@@ -68,9 +70,6 @@ at_column cs i j hi hj some =
     reach_around cs i (i + steps (length cs) i j) (omega arith) (omega arith)
     ∙ ap (λ k. distance (corner_at cs i) (corner_at cs k)) (steps_lead (length cs) i j hi hj)
 
-zero_or : (n : ℕ) → (n ≡ 0) ⊎ (0 < n)
-zero_or n = grind arith
-
 positive_not_negative : (a b : ℤ) → a ≡ pos 0 → pos 0 <ℤ b → a <ℤ b
 positive_not_negative a b e h = omega (arith, ints)
 
@@ -86,13 +85,13 @@ best_is_farthest cs h f i c hi best =
     let far : steps n i (c % n) ≡ c - i = column_steps n i c hi inside.0 inside.1 in
     record {
       there = mod-lt c (omega arith);
-      none_farther = λ j hj. elim (zero_or (steps n i j)) [
+      none_farther = λ j hj. elim (eq-zero-or-pos (steps n i j)) [
         | inl none ↦ below_at_most (distance (corner_at cs i) (corner_at cs j)) (distance (corner_at cs i) (met cs c)) (positive_not_negative (distance (corner_at cs i) (corner_at cs j)) (distance (corner_at cs i) (met cs c)) (at_own cs i j hi hj none) up)
         | inr some ↦
             let below : steps n i j < n = mod-lt (j + n - i) (omega arith) in
             rw (at_column cs i j hi hj some) at (rw here at (not_below_at_most (reach cs i c) (reach cs i (i + steps n i j)) (best.least (i + steps n i j) (omega arith) (omega arith))))
       ];
-      first_met = λ j hj sooner. elim (zero_or (steps n i j)) [
+      first_met = λ j hj sooner. elim (eq-zero-or-pos (steps n i j)) [
         | inl none ↦ positive_not_negative (distance (corner_at cs i) (corner_at cs j)) (distance (corner_at cs i) (met cs c)) (at_own cs i j hi hj none) up
         | inr some ↦
             let earlier : i + steps n i j < c = omega arith in
@@ -104,14 +103,11 @@ best_is_farthest cs h f i c hi best =
 below_not_above : (a b : ℤ) → a <ℤ b → b ≤ℤ a → ⊥
 below_not_above a b h g = omega (arith, ints)
 
-same_or : (a b : ℕ) → (a ≡ b) ⊎ ((a < b) ⊎ (b < a))
-same_or a b = grind arith
-
 pub farthest_unique : (cs : List Corner) (i p q : ℕ) → i < length cs → Farthest cs i p → Farthest cs i q → p ≡ q
 farthest_unique cs i p q hi fp fq =
     let n = length cs in
     let to : ℕ → ℤ = λ j. distance (corner_at cs i) (corner_at cs j) in
-    elim (same_or (steps n i p) (steps n i q)) [
+    elim (cases_order (steps n i p) (steps n i q)) [
       | inl same ↦ sym (steps_lead n i p hi fp.there) ∙ ap (λ e. (i + e) % n) same ∙ steps_lead n i q hi fq.there
       | inr other ↦ elim other [
         | inl sooner ↦ absurd (below_not_above (to p) (to q) (fq.first_met p fp.there sooner) (fp.none_farther q fq.there))

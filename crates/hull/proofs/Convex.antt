@@ -1,13 +1,11 @@
 -- Strict convexity in one pass: three tests at each corner give a left turn at every three corners with rising numbers.
-use Rattle.std.proofs.Common.{◌≡◌, ℕ, zero, suc, ◌+◌, ◌-◌, ◌<◌, ◌≤◌, ◌⊎◌, List, length, take, drop, get_or-take, pos, sym, ◌∙◌, subst, inl, inr, arith}
+use Rattle.std.proofs.Common.{◌≡◌, ℕ, zero, suc, ◌+◌, ◌-◌, ◌<◌, ◌≤◌, List, length, take, drop, get_or-take, pos, sym, ◌∙◌, subst, inl, inr, arith}
 use Rattle.hull.specs.declared.corner.Corner.{Corner}
 use Rattle.std.proofs.lemmas.List.{get_or-drop}
+use Rattle.std.proofs.Math.Nat.{eq-or-lt_of_le}
 use Rattle.hull.specs.Plane.{Left, corner_at}
 use Rattle.hull.specs.Convex.{AllLeft, Passes}
 use Rattle.hull.specs.PlaneLemmas.{left_before, left_beyond, left_on, left_back}
-
-below_suc : (j k : ℕ) → j < suc k → (j ≡ k) ⊎ (j < k)
-below_suc j k h = grind arith
 
 -- every two corners after the corner i turn left from it
 abbrev Star : (ℕ → Corner) → ℕ → ℕ → Type 0
@@ -30,9 +28,9 @@ Bends P n = (k : ℕ) → suc (suc k) < n → Left (P k) (P (suc k)) (P (suc (su
 first_star : (P : ℕ → Corner) (n : ℕ) → First P n → Fan P n → Star P n 0
 first_star P n f s zero j a b c = absurd (omega arith)
 first_star P n f s (suc k) j a b c =
-    elim (below_suc j k b) [
+    elim (eq-or-lt_of_le {n = j} {m = k} (omega arith)) [
       | inl e ↦ subst (λ m. Left (P 0) (P m) (P (suc k))) (sym e) (s k (omega arith) c)
-      | inr l ↦ elim (below_suc 1 j (omega arith)) [
+      | inr l ↦ elim (eq-or-lt_of_le {n = 1} {m = j} (omega arith)) [
         | inl e ↦ subst (λ m. Left (P 0) (P m) (P (suc k))) e (f (suc k) (omega arith) c)
         | inr m ↦ left_beyond (P 0) (P 1) (P j) (P k) (P (suc k)) (f j m (omega arith)) (f k (omega arith) (omega arith)) (f (suc k) (omega arith) c) (first_star P n f s k j a l (omega arith)) (s k (omega arith) c)
       ]
@@ -42,7 +40,7 @@ first_star P n f s (suc k) j a b c =
 next_sides : (P : ℕ → Corner) (n i : ℕ) → Bends P n → Star P n i → Sides P n (suc i)
 next_sides P n i t s zero a c = absurd (omega arith)
 next_sides P n i t s (suc k) a c =
-    elim (below_suc (suc i) k a) [
+    elim (eq-or-lt_of_le {n = suc i} {m = k} (omega arith)) [
       | inl e ↦ subst (λ m. Left (P (suc i)) (P (suc m)) (P (suc (suc m)))) e (t (suc i) (subst (λ m. suc (suc m) < n) (sym e) c))
       | inr l ↦ left_back (P (suc k)) (P (suc (suc k))) (P (suc i))
           (left_before (P (suc k)) (P (suc (suc k))) (P i) (P (suc i)) (P k)
@@ -56,7 +54,7 @@ next_sides P n i t s (suc k) a c =
 next_star : (P : ℕ → Corner) (n i : ℕ) → Sides P n (suc i) → Star P n i → Star P n (suc i)
 next_star P n i d s zero j a b c = absurd (omega arith)
 next_star P n i d s (suc k) j a b c =
-    elim (below_suc j k b) [
+    elim (eq-or-lt_of_le {n = j} {m = k} (omega arith)) [
       | inl e ↦ subst (λ m. Left (P (suc i)) (P m) (P (suc k))) (sym e) (d k (omega arith) c)
       | inr l ↦ left_before (P (suc i)) (P j) (P k) (P (suc k)) (P i)
           (next_star P n i d s k j a l (omega arith))

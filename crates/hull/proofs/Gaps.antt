@@ -1,20 +1,18 @@
 -- Gaps of 32-bit coordinates, their products, and sums and differences of two such products fit 128 bits.
 use Rattle.std.proofs.Common.{ℕ, List, length, ◌<◌, ◌≤◌, ◌^◌, ℤ, ◌+ℤ◌, ◌-ℤ◌, ◌*ℤ◌, FitsSigned, unsigned_abs, arith}
-use Rattle.std.proofs.lemmas.Int.{ints}
+use Rattle.std.proofs.lemmas.Int.{ints, fits_signed_mul}
 use Rattle.std.specs.Int.{w64, w128}
 use Rattle.hull.specs.Bounds as bounds
 use Rattle.hull.specs.declared.corner.Corner.{Corner}
 use Rattle.hull.specs.Plane.{distance, corner_at}
 use Rattle.hull.specs.Convex.{AllNear}
 
+-- the library's `fits_signed_from_abs`, from the bound that is known of a gap
 pub gap_fits : (a : ℤ) → unsigned_abs a < 2 ^ 32 → FitsSigned w128 a
 gap_fits a h = omega (arith, ints)
 
 product_wide : (a b : ℤ) → unsigned_abs a < 2 ^ 32 → unsigned_abs b < 2 ^ 32 → unsigned_abs (a *ℤ b) ≤ 18446744065119617025
 product_wide a b h g = bounds.abs_mul a b 4294967295 4294967295 (omega arith) (omega arith)
-
-wide_fits : (a : ℤ) → unsigned_abs a ≤ 18446744065119617025 → FitsSigned w128 a
-wide_fits a h = omega (arith, ints)
 
 wide_sum_fits : (a b : ℤ) → unsigned_abs a ≤ 18446744065119617025 → unsigned_abs b ≤ 18446744065119617025 → FitsSigned w128 (a +ℤ b)
 wide_sum_fits a b h g = omega (arith, ints)
@@ -23,7 +21,7 @@ wide_difference_fits : (a b : ℤ) → unsigned_abs a ≤ 18446744065119617025 �
 wide_difference_fits a b h g = omega (arith, ints)
 
 pub product_fits : (a b : ℤ) → unsigned_abs a < 2 ^ 32 → unsigned_abs b < 2 ^ 32 → FitsSigned w128 (a *ℤ b)
-product_fits a b h g = wide_fits (a *ℤ b) (product_wide a b h g)
+product_fits a b h g = fits_signed_mul w128 a b 4294967295 4294967295 (omega arith) (omega arith) (omega arith)
 
 pub sum_fits : (a b c d : ℤ) → unsigned_abs a < 2 ^ 32 → unsigned_abs b < 2 ^ 32 → unsigned_abs c < 2 ^ 32 → unsigned_abs d < 2 ^ 32 → FitsSigned w128 (a *ℤ b +ℤ c *ℤ d)
 sum_fits a b c d ha hb hc hd = wide_sum_fits (a *ℤ b) (c *ℤ d) (product_wide a b ha hb) (product_wide c d hc hd)

@@ -1,6 +1,7 @@
 -- The greatest swing, one corner after the other.
 use Rattle.std.proofs.Common.{◌≡◌, ℕ, ◌+◌, ◌<◌, ◌⊎◌, List, length, get_or, ℤ, pos, ◌≤ℤ◌, ◌<ℤ◌, sym, subst, inl, inr, arith}
 use Rattle.std.proofs.lemmas.Int.{ints}
+use Rattle.std.proofs.Math.Nat.{eq-or-lt_of_le}
 use Rattle.std.specs.Int.{int_max}
 use Rattle.hull.specs.declared.corner.Corner.{Corner}
 use Rattle.hull.specs.Plane.{distance, corner_at}
@@ -15,9 +16,6 @@ at_most_through a b c h g = omega (arith, ints)
 
 at_most_below : (a b c : ℤ) → a ≤ℤ b → b <ℤ c → a ≤ℤ c
 at_most_below a b c h g = omega (arith, ints)
-
-last_or_before : (j m : ℕ) → j < m + 1 → (j ≡ m) ⊎ (j < m)
-last_or_before j m h = grind arith
 
 pub greatest_first : (cs : List Corner) (partners : List ℕ) (d : ℤ) → d ≡ swing_of cs partners 0 → Greatest cs partners 1 d
 greatest_first cs partners d e =
@@ -34,7 +32,7 @@ greatest_stays cs partners m d e g is low =
       holder = g.holder;
       holder_in = omega arith;
       has_it = g.has_it;
-      none_more = λ i h. elim (last_or_before i m h)
+      none_more = λ i h. elim (eq-or-lt_of_le {n = i} {m = m} (omega arith))
           [ inl last ↦ subst (λ (k : ℕ). swing_of cs partners k ≤ℤ d) (sym last) (subst (λ (z : ℤ). z ≤ℤ d) is low) | inr before ↦ g.none_more i before ];
     }
 
@@ -44,7 +42,7 @@ greatest_rises cs partners m d e g is high =
       holder = m;
       holder_in = omega arith;
       has_it = is;
-      none_more = λ i h. elim (last_or_before i m h) [
+      none_more = λ i h. elim (eq-or-lt_of_le {n = i} {m = m} (omega arith)) [
         | inl last ↦ subst (λ (k : ℕ). swing_of cs partners k ≤ℤ e) (sym last) (at_most_self e (swing_of cs partners m) is)
         | inr before ↦ at_most_below (swing_of cs partners i) d e (g.none_more i before) high
       ];

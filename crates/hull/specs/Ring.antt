@@ -2,8 +2,10 @@
 -- meaning where their difference normalises to the polynomial with no coefficient but 0.
 use Rattle.std.specs.Prelude.{◌≡◌, ℕ, zero, suc, ◌*◌, Bool, true, false, T, List, [], ◌∷◌, ℤ, pos, negsuc, ◌+ℤ◌, ◌-ℤ◌, ◌*ℤ◌, neg_ℤ, refl}
 use Rattle.std.proofs.Common.{sym, ap, ◌∙◌, arith}
+use Rattle.std.proofs.lemmas.Int.{ints}
 use Rattle.std.proofs.Math.IntN.{+ℤ_idl, +ℤ_idr, zero-*ℤ, *ℤ-zero, *ℤ_comm}
-use borrow.Author.Differences.{ints, up, down, same_in, sum_is_lem, product_is, neg_is}
+-- the library itself reads whole numbers by these; it has no other name for them
+use borrow.Author.Differences.{up, down, same_in, sum_is_lem, product_is, neg_is}
 
 -- ring laws that std lacks
 pub mul_add : (a b c : ℤ) → a *ℤ (b +ℤ c) ≡ a *ℤ b +ℤ a *ℤ c

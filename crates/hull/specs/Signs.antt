@@ -1,7 +1,9 @@
 -- The signs of sums and products of whole numbers.
 use Rattle.std.specs.Prelude.{◌≡◌, zero, suc, ℤ, pos, negsuc, ◌+ℤ◌, ◌-ℤ◌, ◌*ℤ◌, ◌≤ℤ◌, ◌<ℤ◌}
 use Rattle.std.proofs.Common.{sym, ◌∙◌, subst, arith}
-use borrow.Author.Differences.{ints, below_in, at_most_in}
+use Rattle.std.proofs.lemmas.Int.{ints}
+-- the library itself reads whole numbers by these; it has no other name for them
+use borrow.Author.Differences.{below_in, at_most_in}
 use Rattle.std.proofs.Math.IntN.{*ℤ_comm, zero-*ℤ}
 
 pub mul_pos : (a b : ℤ) → pos 0 <ℤ a → pos 0 <ℤ b → pos 0 <ℤ (a *ℤ b)

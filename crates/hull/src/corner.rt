@@ -1,5 +1,5 @@
 //! A corner, and what two or three corners make: a squared distance and a turn.
-ghost use Rattle.std.specs.Prelude.{◌≡◌, ◌<◌, ◌^◌, true, ◌-ℤ◌, unsigned_abs};
+ghost use Rattle.std.specs.Prelude.{◌≡◌, ◌<◌, ◌^◌, ◌-ℤ◌, unsigned_abs, Decides};
 ghost use Rattle.hull.specs.Plane.{Near, Left, turn, distance};
 
 /// The farthest that a coordinate may lie from 0.
@@ -15,8 +15,7 @@ pub struct Corner {
 impl Corner {
     /// Whether both coordinates are from -30,000 to 30,000.
     pub(crate) fn is_near(self) -> bool
-        ensures near { result ≡ true → Near self }
-        ensures only { Near self → result ≡ true }
+        ensures decides { Decides result (Near self) }
     {
         self.x.unsigned_abs() <= FARTHEST_OUT && self.y.unsigned_abs() <= FARTHEST_OUT
     }
@@ -33,6 +32,7 @@ impl Corner {
     }
 
     /// The squared distance to q.
+    #[tactic(auto, using(crate::proofs::Gaps::product_fits))]
     pub(crate) fn distance(self, q: Corner) -> i128
         ensures value { result ≡ distance self q }
     {
@@ -41,6 +41,7 @@ impl Corner {
     }
 
     /// Twice the signed area of the triangle with p and q: positive where the three turn left.
+    #[tactic(auto, using(crate::proofs::Gaps::product_fits))]
     fn turn(self, p: Corner, q: Corner) -> i128
         ensures value { result ≡ turn self p q }
     {
@@ -51,8 +52,7 @@ impl Corner {
 
     /// Whether the three turn left.
     pub(crate) fn turns_left(self, p: Corner, q: Corner) -> bool
-        ensures left { result ≡ true → Left self p q }
-        ensures only { Left self p q → result ≡ true }
+        ensures decides { Decides result (Left self p q) }
     {
         0 < self.turn(p, q)
     }

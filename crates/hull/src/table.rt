@@ -11,7 +11,8 @@ pub const MOST_CORNERS: usize = 512;
 /// of them with rising numbers turn left.
 #[derive(Clone, Copy)]
 pub struct Hull {
-    // An array and a length, since a hull is Copy and an ArrayVec is not; `set` writes both at once.
+    // An array and a length, since a hull is Copy and an ArrayVec is not, and for the same reason it has no model: that of a
+    // Copy type may forget no field. `set` writes both at once.
     pub(crate) table: [Corner; MOST_CORNERS],
     pub(crate) len: usize,
     ghost counted: { length (take len table) ≡ len },

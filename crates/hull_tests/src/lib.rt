@@ -16,6 +16,12 @@ mod tests {
         [at(0, 0), at(4, 0), at(4, 4), at(0, 4)]
     }
 
+    fn hull_of(rt: &impl Abort, corners: &[Corner]) -> Hull {
+        let mut hull = Hull::new();
+        assert_eq!(rt; hull.set(corners), Ok(corners.len()));
+        hull
+    }
+
     fn refused(rt: &impl Abort, corners: &[Corner], why: Refusal) {
         let mut hull = Hull::new();
         assert_eq!(rt; hull.set(corners), Err(why));
@@ -35,8 +41,7 @@ mod tests {
 
     #[test]
     fn the_square_with_places_to_spare(rt: HostRuntime) {
-        let mut hull = Hull::new();
-        assert_eq!(rt; hull.set(&square()), Ok(4));
+        let hull = hull_of(&rt, &square());
         let mut answers = [99; 6];
         let mut work = [99; 18];
         assert!(rt;
@@ -50,8 +55,7 @@ mod tests {
 
     #[test]
     fn a_tie_goes_to_the_first_met(rt: HostRuntime) {
-        let mut hull = Hull::new();
-        assert_eq!(rt; hull.set(&[at(0, 0), at(4, 3), at(3, 4)]), Ok(3));
+        let hull = hull_of(&rt, &[at(0, 0), at(4, 3), at(3, 4)]);
         let mut answers = [99; 3];
         let mut work = [99; 12];
         assert!(rt; hull.farthest(&mut answers, &mut work).is_ok());
@@ -62,8 +66,7 @@ mod tests {
 
     #[test]
     fn short_lists_are_left_alone(rt: HostRuntime) {
-        let mut hull = Hull::new();
-        assert_eq!(rt; hull.set(&square()), Ok(4));
+        let hull = hull_of(&rt, &square());
         let mut answers = [99; 4];
         let mut work = [99; 15];
         assert_eq!(rt;
@@ -90,15 +93,14 @@ mod tests {
 
     #[test]
     fn coordinates_reach_30_000(rt: HostRuntime) {
-        let mut hull = Hull::new();
-        assert_eq!(rt;
-            hull.set(&[
+        let hull = hull_of(
+            &rt,
+            &[
                 at(-30_000, -30_000),
                 at(30_000, -30_000),
                 at(30_000, 30_000),
                 at(-30_000, 30_000),
-            ]),
-            Ok(4)
+            ],
         );
         assert_eq!(rt; hull.swing(0, 2), Ok(7_200_000_000));
         refused(

@@ -12,11 +12,11 @@ use weighing::rule::require;
 use weighing::verdict::heed;
 use weighing::weighing::Weighing;
 
-const FIRST_TOP: u64 = 0x1fff_ffff;
+const FIRST_TOP: u64 = (1 << 29) - 1;
 
-const SECOND_TOP: u64 = 0x7ff_ffff;
+const SECOND_TOP: u64 = (1 << 27) - 1;
 
-const UNIT: u64 = 0x4000_0000;
+const UNIT: u64 = 1 << 30;
 
 /// Weighs by `first`, and where that is level by `second`. Level and count are the first's, and both
 /// take, drop, wipe and weigh together. Where the first's top is above 2^29 - 1, the second's above
@@ -46,6 +46,7 @@ impl<F: Weighing, S: Weighing> Pair<F, S> {
     }
 }
 
+// What a call leaves as it was stands at each call: an invariant knows no state before.
 impl<F: Weighing, S: Weighing> Weighing for Pair<F, S> {
     ghost held = { (paired F.Weighing S.Weighing).held };
 

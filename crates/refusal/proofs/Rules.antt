@@ -1,6 +1,5 @@
 -- Rules and the refusals that they give.
-use Prim.Native.Nat.{ℕ}
-use mathlib.Core.Logic.{inl, inr}
+use Rattle.std.proofs.Common.{ℕ, inl, inr}
 use Rattle.refusal.specs.declared.Refusal.{Refusal}
 use Rattle.refusal.specs.Rules.{Broken, NoOther}
 

@@ -32,7 +32,7 @@ impl Hold for AtLast {
 
     #[tactic(auto, using(crate::specs::HeldLemmas::held_rising, crate::specs::CeilingsLemmas::ceiling_by_sums))]
     fn weight(row: &Readings, a: usize, b: usize) -> u64 {
-        let level = row.at(Self::place(a, b)) as u64;
-        (b - a) as u64 * level + row.sum_first(a) as u64 - row.sum_first(b) as u64
+        let level = u64::from(row.at(Self::place(a, b)));
+        (b - a) as u64 * level + u64::from(row.sum_first(a)) - u64::from(row.sum_first(b))
     }
 }

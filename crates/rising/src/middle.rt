@@ -34,8 +34,9 @@ impl Hold for AtMiddle {
     fn weight(row: &Readings, a: usize, b: usize) -> u64 {
         // the readings after the middle less those before it
         let twice = a + b;
-        let ends = row.sum_first(a) as u64 + row.sum_first(b) as u64;
-        let middles = row.sum_first(twice / 2) as u64 + row.sum_first((twice + 1) / 2) as u64;
+        let ends = u64::from(row.sum_first(a)) + u64::from(row.sum_first(b));
+        let middles = u64::from(row.sum_first(twice / 2))
+            + u64::from(row.sum_first((twice + 1) / 2));
         ends - middles
     }
 }

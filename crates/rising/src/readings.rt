@@ -18,7 +18,8 @@ struct Entry {
 }
 
 /// Up to 512 readings, the first `n` entries: none above 65,535 and none below the one before it.
-// An array with its length beside it: to wipe an `ArrayVec` takes a write for each reading, and a wipe is to cost no more than a take.
+// An array with its length beside it: a wipe takes a fixed number of steps, and that of an `ArrayVec` a write for each reading.
+// no model: the trait Hold and the specs cite the list by name
 #[derive(Drop)]
 pub struct Readings {
     entries: [Entry; MOST_READINGS],

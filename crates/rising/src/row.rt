@@ -63,6 +63,7 @@ impl<H: Hold> Row<H> {
     }
 }
 
+// What a call leaves as it was stands at each call: an invariant knows no state before.
 impl<H: Hold> Weighing for Row<H> {
     ghost held = { (row_meaning H.place H.weight).held };
 

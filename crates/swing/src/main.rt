@@ -26,9 +26,8 @@ enum Stop {
 /// The corner that a line of the input writes. A line that is no text writes none.
 fn corner_of(line: io::Result<String>) -> io::Result<Result<Corner, Refusal>> {
     match line {
-        Ok(line) => Ok(read(line.as_str())),
         Err(fault) if fault.kind() == ErrorKind::InvalidData => Ok(Err(Refusal::NotUnderstood)),
-        Err(fault) => Err(fault),
+        line => Ok(read(line?.as_str())),
     }
 }
 

@@ -9,7 +9,7 @@ use refusal::Refusal;
 /// b - 1 and has a weight and a level. The verdict tells of a next reading whether it would be taken.
 /// What becomes of the verdict when readings come and go is the maker's to say.
 // The clauses list the members one by one, since the record of them, by which `Did` cites a call, is made from this trait.
-// A span is two places and no type of its own: the law takes new spans from the places of others, and a clause the places alone.
+// A span is two numbers and no Range, which is not Copy: a pair hands the span to both its sides, and the law takes new spans from the places of others.
 pub trait Weighing {
     // how many readings are held: n
     ghost held: { Self → ℕ };
@@ -30,6 +30,7 @@ pub trait Weighing {
     ghost count: { Self → ℕ };
 
     /// Whether `reading` would be taken: `None`, or why not.
+    // an Option: a verdict is what is told, and only a take fails with it
     fn verdict(&self, reading: u32) -> Option<Refusal>
         ensures value { told result ≡ verdict self.now reading };
 

@@ -34,6 +34,7 @@ impl Stairs {
     }
 }
 
+// written out in full, as a maker outside these crates would
 impl Weighing for Stairs {
     ghost held = { λ s. s.n };
 

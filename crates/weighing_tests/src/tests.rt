@@ -30,6 +30,7 @@ use Step::{Count, DropLast, Held, Level, Take, Top, Verdict, Weigh, Wipe};
 // what a step answers
 type Answer = Result<u64, Refusal>;
 
+// written out: a test takes no bound from the code
 const GREATEST_CHARGE: u64 = 0x1000_0000;
 
 const GREATEST_COUNT: u64 = 0x7fff_ffff_ffff_ffff;
@@ -42,7 +43,7 @@ fn act<W: Weighing>(w: &mut W, step: Step) -> Answer {
         DropLast => w.drop_last().map(|n| n as u64),
         Wipe => Ok(w.wipe() as u64),
         Weigh(a, b) => w.weigh(a, b),
-        Level(a, b) => w.level(a, b).map(|level| level as u64),
+        Level(a, b) => w.level(a, b).map(u64::from),
         Verdict(reading) => heed(w.verdict(reading)).map(|()| 0),
         Held => Ok(w.held() as u64),
         Top => Ok(w.top()),

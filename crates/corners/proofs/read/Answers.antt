@@ -6,7 +6,6 @@ use Rattle.std.specs.Option.{ok_or}
 use Rattle.std.specs.Result.{result_ok}
 use Rattle.refusal.specs.declared.Refusal.TheVariants.{NotUnderstood}
 use Rattle.refusal.proofs.Rules.{stronger_broken}
-use Rattle.corners.specs.Lines.{SomeNumber, SomeCorner}
 use Rattle.corners.proofs.Lines.{no_space_no_corner, parts_are_numbers, parts_written}
 use Rattle.corners.proofs.read.Goals as goal
 
@@ -22,20 +21,16 @@ returns-in_err-x c =
 pub returns-in_err-whole : goal.returns-in_err-whole
 returns-in_err-whole c =
     let p = err_from_is_err_and c.from_residual-in_err-whole.result c.from_residual-in_err-whole.ensures.1 in
-    let line = c.args.line.now in
     let split = rw (c.ok_or.ensures.ok_part, c.in_ok-x.was) at c.split_once.ensures.cases in
-    let parts = parts_are_numbers line c.in_ok-x.x c.in_ok-x.y split in
-    rw (p.1, p.2)
-    (record { answer = stronger_broken (SomeNumber c.in_ok-x.x.now) (SomeCorner line) 14 _ (λ s. (s.0.x, (parts s.0 s.1).0)) c.in_err-whole.ensures.answer })
+    let numbers = parts_are_numbers c.args.line.now c.in_ok-x.x c.in_ok-x.y split in
+    rw (p.1, p.2) (record { answer = stronger_broken _ _ 14 _ (λ s. (numbers s).0) c.in_err-whole.ensures.answer })
 
 pub returns-in_err-whole-2 : goal.returns-in_err-whole-2
 returns-in_err-whole-2 c =
     let p = err_from_is_err_and c.from_residual-in_err-whole-2.result c.from_residual-in_err-whole-2.ensures.1 in
-    let line = c.args.line.now in
     let split = rw (c.ok_or.ensures.ok_part, c.in_ok-x.was) at c.split_once.ensures.cases in
-    let parts = parts_are_numbers line c.in_ok-x.x c.in_ok-x.y split in
-    rw (p.1, p.2)
-    (record { answer = stronger_broken (SomeNumber c.in_ok-x.y.now) (SomeCorner line) 14 _ (λ s. (s.0.y, (parts s.0 s.1).1)) c.in_err-whole-2.ensures.answer })
+    let numbers = parts_are_numbers c.args.line.now c.in_ok-x.x c.in_ok-x.y split in
+    rw (p.1, p.2) (record { answer = stronger_broken _ _ 14 _ (λ s. (numbers s).1) c.in_err-whole-2.ensures.answer })
 
 pub returns : goal.returns
 returns c =

@@ -14,7 +14,7 @@ impl Readings {
         ensures value { readings result ≡ [] }
     {
         Readings {
-            entries: [Entry { reading: 0, sum: 0 }; MOST_READINGS],
+            entries: [Entry::default(); MOST_READINGS],
             n: 0,
         }
     }
@@ -57,6 +57,7 @@ impl Readings {
     pub(crate) fn drop_last(&mut self) -> Result<usize, Refusal>
         ensures answer { Pops readings self.old self.new result }
     {
+        // Two lines; a shared count would need a contract as long as theirs.
         self.n = self.n.checked_sub(1).ok_or(Refusal::NothingHeld)?;
         Ok(self.n)
     }

@@ -2,12 +2,6 @@ use Rattle.std.proofs.Common.{to_z-of_z}
 use Rattle.hull.proofs.Gaps.{gaps_fit}
 use Rattle.hull.proofs.corner.Corner.distance.Goals as goal
 
-pub overflow_mul-result : goal.overflow_mul-result
-overflow_mul-result c = let x = c.past-x.ensures.small.0 in simp (to_z-of_z, gaps_fit) (search gaps_fit)
-
-pub overflow_mul-result-2 : goal.overflow_mul-result-2
-overflow_mul-result-2 c = let y = c.past-x.ensures.small.1 in simp (to_z-of_z, gaps_fit) (search gaps_fit)
-
 pub overflow_add-result : goal.overflow_add-result
 overflow_add-result c =
     let x = c.past-x.ensures.small.0 in

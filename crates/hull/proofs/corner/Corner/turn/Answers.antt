@@ -2,16 +2,6 @@ use Rattle.std.proofs.Common.{to_z-of_z}
 use Rattle.hull.proofs.Gaps.{gaps_fit}
 use Rattle.hull.proofs.corner.Corner.turn.Goals as goal
 
-pub overflow_mul-result : goal.overflow_mul-result
-overflow_mul-result c =
-    let px = c.past-px.ensures.small.0 in
-    let qy = c.past-qx.ensures.small.1 in simp (to_z-of_z, gaps_fit) (search gaps_fit)
-
-pub overflow_mul-result-2 : goal.overflow_mul-result-2
-overflow_mul-result-2 c =
-    let py = c.past-px.ensures.small.1 in
-    let qx = c.past-qx.ensures.small.0 in simp (to_z-of_z, gaps_fit) (search gaps_fit)
-
 pub overflow_sub-result : goal.overflow_sub-result
 overflow_sub-result c =
     let px = c.past-px.ensures.small.0 in

@@ -1,4 +1,5 @@
 -- The hull's corners are near, so the distance of two of them fits 64 bits.
+-- The goals hold after different steps, whose types a shared lemma would have to write out: each finds what it needs anew.
 use Rattle.std.proofs.Common.{to_z-of_z, w64, SFits, rules}
 use Rattle.std.specs.Int.{w128}
 use Rattle.hull.specs.Hulls.{corners_of}

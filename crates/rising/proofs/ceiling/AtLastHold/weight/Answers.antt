@@ -8,7 +8,7 @@ use Rattle.rising.proofs.ceiling.AtLastHold.weight.Goals as goal
 pub overflow_sub-result-2 : goal.overflow_sub-result-2
 overflow_sub-result-2 c =
     let r = c.args.row.now in
-    let level : c.at-level.result ≡ slice_index (readings r) (c.args.b - 1) = cc in
+    let level : c.from-level.result ≡ slice_index (readings r) (c.args.b - 1) = cc in
     let times = ap (λ v. (c.args.b - c.args.a) * v) level in
     let sums = ceiling_by_sums (readings r) (held_rising r) c.args.a c.args.b c.requires.some c.requires.within in
     omega arith

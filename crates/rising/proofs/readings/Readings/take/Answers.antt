@@ -1,4 +1,5 @@
 -- A reading that the verdict allows finds room, and what held of the entries holds with it.
+-- The goals hold after different steps, whose types a shared lemma would have to write out: each finds what it needs anew.
 use Rattle.std.proofs.Common.{◌≡◌, ◌+◌, ◌∙◌, length, length-set, arith, rules}
 use Rattle.rising.specs.Held.{readings}
 use Rattle.rising.specs.Rows.{rising_verdict}
