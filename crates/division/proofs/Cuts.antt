@@ -1,7 +1,7 @@
 -- Which of two divisions cuts later, by their last spans.
 use Rattle.std.proofs.Common.{◌≡◌, ℕ, zero, suc, ◌<◌, List, [], ◌∷◌, ◌++◌, length, get_or, sym, refl, ◌∙◌, subst, arith, length-append}
-use lib.ListN.{get_or-eq_default}
-use lib.Seq.{get_or-append_seam}
+use Rattle.std.proofs.Math.ListN.{get_or-eq_default}
+use Rattle.std.proofs.Math.Seq.{get_or-append_seam}
 use Rattle.division.specs.Divisions.{Division, LaterCut}
 use Rattle.division.proofs.Snoc.{parted}
 
