@@ -12,6 +12,7 @@ pub enum Command<'a> {
 }
 
 /// The first line: the kind of weighing, the nominal length of an even one, and the limit of spans.
+// The limit stands in each kind, so that every variant has its numbers in the order of the line.
 #[derive(Clone, Copy, Drop)]
 pub enum Opening<'a> {
     Ceiling { limit: &'a [u8] },

@@ -106,8 +106,8 @@ mod tests {
             "# take 5\n",
         );
         let mut reader = Reader::new(malformed.as_bytes());
-        for _ in 0..49 {
-            assert_eq!(rt; heard(reader.next_line()), ("refused", 14));
+        for line in malformed.lines() {
+            assert_eq!(rt; heard(reader.next_line()), ("refused", 14), "{line}");
         }
         assert_eq!(rt; heard(reader.next_line()).0, "none");
     }
@@ -172,8 +172,8 @@ mod tests {
             "take 5\n",
         );
         let mut reader = Reader::new(malformed.as_bytes());
-        for _ in 0..38 {
-            assert_eq!(rt; opened(reader.next_opening()), ("refused", 0, 14));
+        for line in malformed.lines() {
+            assert_eq!(rt; opened(reader.next_opening()), ("refused", 0, 14), "{line}");
         }
         assert_eq!(rt; opened(reader.next_opening()).0, "none");
     }

@@ -1,6 +1,5 @@
 -- The order of costs is a strict weak order; the leftmost least cost of one entry more.
-use Rattle.std.proofs.Common.{◌≡◌, ℕ, ◌+◌, true, false, sym, refl, subst, subst₂, arith, ltb-false, ltb-true, le-ltb, lt-ltb}
-use borrow.Author.Tests.{clash}
+use Rattle.std.proofs.Common.{◌≡◌, ℕ, ◌+◌, true, false, true≢false, sym, refl, subst, subst₂, arith, ltb-false, ltb-true, le-ltb, lt-ltb}
 use Rattle.search.specs.Least.{Leftmost}
 use Rattle.search.proofs.Least.{WeakOrder, leftmost_takes, leftmost_keeps}
 use Rattle.division.specs.declared.cost.Cost.{Cost}
@@ -17,18 +16,18 @@ transitive (Number a) (Number b) (Number c) p q =
     let g = ltb-true b c q in
     lt-ltb a c (omega arith)
 transitive (Number a) (Number b) Empty p q = refl
-transitive (Number a) Empty (Number c) p q = absurd (clash q)
+transitive (Number a) Empty (Number c) p q = absurd (true≢false (sym q))
 transitive (Number a) Empty Empty p q = refl
-transitive Empty (Number b) z p q = absurd (clash p)
-transitive Empty Empty z p q = absurd (clash p)
+transitive Empty (Number b) z p q = absurd (true≢false (sym p))
+transitive Empty Empty z p q = absurd (true≢false (sym p))
 
 pub weak : (x y z : Cost) → before x y ≡ false → before y z ≡ false → before x z ≡ false
 weak (Number a) (Number b) (Number c) p q =
     let h = ltb-false a b p in
     let g = ltb-false b c q in
     le-ltb a c (omega arith)
-weak (Number a) (Number b) Empty p q = absurd (clash (sym q))
-weak (Number a) Empty z p q = absurd (clash (sym p))
+weak (Number a) (Number b) Empty p q = absurd (true≢false q)
+weak (Number a) Empty z p q = absurd (true≢false p)
 weak Empty y (Number c) p q = refl
 weak Empty y Empty p q = refl
 

@@ -1,31 +1,25 @@
 -- Which of two divisions cuts later, by their last spans.
 use Rattle.std.proofs.Common.{◌≡◌, ℕ, zero, suc, ◌<◌, List, [], ◌∷◌, ◌++◌, length, get_or, sym, refl, ◌∙◌, subst, arith, length-append}
-use lib.ListN.{get_or-eq_default}
-use lib.Seq.{get_or-append_seam}
+use Rattle.std.proofs.Math.ListN.{get_or-eq_default}
+use Rattle.std.proofs.Math.Seq.{get_or-append_seam}
 use Rattle.division.specs.Divisions.{Division, LaterCut}
 use Rattle.division.proofs.Snoc.{parted}
 
-same_snoc : (xs ys : List ℕ) (j q : ℕ) → length xs ≡ length ys → get_or xs q 0 ≡ get_or ys q 0 → get_or (xs ++ (j ∷ [])) q 0 ≡ get_or (ys ++ (j ∷ [])) q 0
-same_snoc [] [] j q l e = refl
-same_snoc [] (y ∷ ys) j q l e = absurd (omega arith)
-same_snoc (x ∷ xs) [] j q l e = absurd (omega arith)
-same_snoc (x ∷ xs) (y ∷ ys) j zero l e = e
-same_snoc (x ∷ xs) (y ∷ ys) j (suc q) l e = same_snoc xs ys j q (omega arith) e
-
-less_snoc : (xs ys : List ℕ) (j q : ℕ) → length xs ≡ length ys → get_or xs q 0 < get_or ys q 0 → get_or (xs ++ (j ∷ [])) q 0 < get_or (ys ++ (j ∷ [])) q 0
-less_snoc [] [] j q l e = absurd (omega arith)
-less_snoc [] (y ∷ ys) j q l e = absurd (omega arith)
-less_snoc (x ∷ xs) [] j q l e = absurd (omega arith)
-less_snoc (x ∷ xs) (y ∷ ys) j zero l e = e
-less_snoc (x ∷ xs) (y ∷ ys) j (suc q) l e = less_snoc xs ys j q (omega arith) e
+-- a common last end keeps what holds of the ends at a place, if it holds of any end and itself where it holds of 0 and 0
+snoc_keeps : (R : ℕ → ℕ → Type 0) → ((x : ℕ) → R 0 0 → R x x) → (xs ys : List ℕ) (j q : ℕ) → length xs ≡ length ys → R (get_or xs q 0) (get_or ys q 0) → R (get_or (xs ++ (j ∷ [])) q 0) (get_or (ys ++ (j ∷ [])) q 0)
+snoc_keeps R same [] [] j q l e = same (get_or (j ∷ []) q 0) e
+snoc_keeps R same [] (y ∷ ys) j q l e = absurd (omega arith)
+snoc_keeps R same (x ∷ xs) [] j q l e = absurd (omega arith)
+snoc_keeps R same (x ∷ xs) (y ∷ ys) j zero l e = e
+snoc_keeps R same (x ∷ xs) (y ∷ ys) j (suc q) l e = snoc_keeps R same xs ys j q (omega arith) e
 
 -- a common last end leaves the order
 pub later_snoc : (xs ys : List ℕ) (j : ℕ) → length xs ≡ length ys → LaterCut xs ys → LaterCut (xs ++ (j ∷ [])) (ys ++ (j ∷ []))
 later_snoc xs ys j l c =
     record {
       place = c.place;
-      later = less_snoc xs ys j c.place l c.later;
-      same_after = λ p h. same_snoc xs ys j p l (c.same_after p h);
+      later = snoc_keeps (λ a b. a < b) (λ x h. absurd (omega arith)) xs ys j c.place l c.later;
+      same_after = λ p h. snoc_keeps (λ a b. a ≡ b) (λ x e. refl) xs ys j p l (c.same_after p h);
     }
 
 past_snoc : (xs : List ℕ) (a p : ℕ) → length xs < p → get_or (xs ++ (a ∷ [])) p 0 ≡ 0

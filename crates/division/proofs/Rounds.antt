@@ -1,6 +1,5 @@
 -- The leftmost least entry of a round is the tally, and its column the last cut; and a round's entries are lawful.
-use Rattle.std.proofs.Common.{◌≡◌, ℕ, suc, ◌+◌, ◌<◌, ◌≤◌, Bool, true, false, cond, ltb, ◌⊎◌, List, [], ◌∷◌, ◌++◌, sym, refl, ap, ◌∙◌, subst, inl, inr, arith, ltb-false, ltb-true, lt-ltb}
-use borrow.Author.Tests.{clash}
+use Rattle.std.proofs.Common.{◌≡◌, ℕ, suc, ◌+◌, ◌<◌, ◌≤◌, Bool, true, false, true≢false, cond, ltb, ◌⊎◌, List, [], ◌∷◌, ◌++◌, sym, refl, ap, ◌∙◌, subst, inl, inr, arith, ltb-false, ltb-true, lt-ltb}
 use Rattle.std.proofs.lemmas.Bool.{cases_lt}
 use Rattle.search.specs.Least.{Leftmost}
 use Rattle.division.specs.declared.cost.Cost.{Cost}
@@ -75,7 +74,7 @@ module _ (weight : ℕ → ℕ → ℕ) (tallies : ℕ → Cost) (k j columns c 
       let p = parted k j ends d in
       let s = tallied p.cut p.front p.inside p.divides in
       let f = most.least p.cut (omega arith) (omega (arith, p.inside)) in
-      clash (sym (rw (entry_at weight tallies j p.cut s.0 p.inside s.1, e) at f))
+      true≢false (rw (entry_at weight tallies j p.cut s.0 p.inside s.1, e) at f)
 
   row_tally : (t : Cost) → round_entry weight tallies j c ≡ t → Tally weight (suc k) j t
   row_tally (Number v) e = number v e
@@ -124,5 +123,5 @@ rounds_lawful weight tallies n i j a b law h g l e = from (round_entry weight ta
     from Empty p = absurd (never (round_entry weight tallies i a) (rw p at e))
       where
         never : (y : Cost) → before Empty y ≡ true → ⊥
-        never (Number v) q = clash q
-        never Empty q = clash q
+        never (Number v) q = true≢false (sym q)
+        never Empty q = true≢false (sym q)

@@ -1,6 +1,6 @@
 -- Fresh tables; and that a round may carry every right tally of at most seven spans.
 use Rattle.std.proofs.Common.{◌≡◌, ℕ, zero, suc, ◌+◌, ◌-◌, ◌*◌, ◌^◌, ◌<◌, ◌≤◌, min, Bool, true, false, cond, ltb, replicate, sym, refl, ap, ◌∙◌, subst, arith, ltb-false, ltb-true, le-ltb}
-use lib.ListN.{get_or-replicate}
+use Rattle.std.proofs.lemmas.List.{get_or-replicate}
 use Rattle.division.specs.declared.cost.Cost.{Cost}
 use Rattle.division.specs.declared.cost.Cost.TheVariants.{Number, Empty}
 use Rattle.division.specs.declared.table.Table.{Table}

@@ -1,6 +1,5 @@
 -- The trail of the last cuts is the best division.
-use Rattle.std.proofs.Common.{◌≡◌, ℕ, zero, suc, ◌+◌, ◌<◌, ◌≤◌, ◌⊎◌, List, [], ◌∷◌, ◌++◌, length, sym, refl, ap, ◌∙◌, subst, inl, inr, ⊎_elim, arith, ltb-false, ltb-true}
-use borrow.Author.Tests.{clash}
+use Rattle.std.proofs.Common.{◌≡◌, ℕ, zero, suc, ◌+◌, ◌<◌, ◌≤◌, true≢false, ◌⊎◌, List, [], ◌∷◌, ◌++◌, length, sym, refl, ap, ◌∙◌, subst, inl, inr, ⊎_elim, arith, ltb-false, ltb-true}
 use Rattle.std.proofs.lemmas.Bool.{cases_order}
 use Rattle.search.specs.Least.{Leftmost}
 use Rattle.division.specs.declared.cost.Cost.{Cost}
@@ -106,7 +105,7 @@ module _ (weight : ℕ → ℕ → ℕ) (tally : ℕ → ℕ → Cost) (cut : �
       go Empty e =
           let u = numbered weight 1 n (tally 1 n) (sound.tallied 1 n (omega (arith, most.low, most.high)) (omega arith)) (n ∷ []) one in
           let f = most.least 1 (omega arith) (omega (arith, most.low, most.high)) in
-          absurd (clash (sym (rw (u.1, e) at f)))
+          absurd (true≢false (rw (u.1, e) at f))
 
   lightest : Least weight s n number.0
   lightest = subst (Tally weight s n) number.1 (sound.tallied s n (omega (arith, most.high)) (omega arith))

@@ -13,9 +13,12 @@ use refusal::Refusal;
 pub const MOST_SPANS: usize = 8;
 
 /// A table covers this many readings at most.
+// its own number: a table knows no weighing
 pub const MOST_READINGS: usize = 512;
 
 const ROW: usize = MOST_READINGS + 1;
+
+const CELLS: usize = MOST_SPANS * ROW;
 
 // one more than the greatest number that a cell holds
 const TOO_GREAT: u64 = 1 << 62;
@@ -33,13 +36,15 @@ pub struct Told {
 /// Eight rows of 513 tallies and eight of last cuts: a cell for each number of spans from 1 to 8
 /// and of readings from 0 to 512.
 // One flat array for each: fixed memory, and the cell of a place is one multiplication away.
+// Two and not one of cells, whose padding would take half as much again: 16 bytes a cell, and not 10.
 #[derive(Drop)]
 pub struct Table {
-    tallies: [u64; 4104],
-    cuts: [u16; 4104],
+    tallies: [u64; CELLS],
+    cuts: [u16; CELLS],
 }
 
 // Where the cell of k spans and j readings stands.
+// Everywhere the two numbers are the names of a cell, in this order.
 fn cell(k: usize, j: usize) -> Option<usize>
     ensures value { elim result [
       | Some i ↦ (0 < k) × (k ≤ 8) × (j ≤ 512) × (i ≡ (k - 1) * 513 + j)
@@ -81,8 +86,8 @@ impl Table {
         ensures right { (weight : ℕ → ℕ → ℕ) (rounds : ℕ) → Right weight result rounds 0 }
     {
         Table {
-            tallies: [0; 4104],
-            cuts: [0; 4104],
+            tallies: [0; CELLS],
+            cuts: [0; CELLS],
         }
     }
 

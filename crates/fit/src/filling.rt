@@ -10,6 +10,7 @@ use search::sheet::Sheet;
 use search::strip::Strip;
 use weighing::weighing::Weighing;
 
+// `round < 8` is no invariant of the type, since a sheet of any round is lawful.
 impl<W: Weighing> Rounds<W> {
     // Reads an entry once more, and keeps it as the tally of the row's readings and its column as their last cut.
     fn keep(&mut self, row: usize, column: usize)

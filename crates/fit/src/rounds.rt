@@ -61,7 +61,7 @@ impl<W: Weighing> Sheet for Rounds<W> {
     ghost monotone = { λ s i j a b ij jn ab bn won. rounds_lawful (W.Weighing.weight s.weighing) (carried_at s.table s.round) (W.Weighing.held s.weighing) _ _ a b (W.Weighing.quadrangle s.weighing) (omega arith) (omega arith) ab won };
 
     fn precedes(a: &Cost, b: &Cost) -> bool {
-        a < b
+        a.precedes(*b)
     }
 
     fn rows(&self) -> usize {

@@ -24,6 +24,7 @@ all_settled : (rs : List Bool) → settled (map (λ (r : Bool). true) rs) ≡ le
 all_settled [] = refl
 all_settled (r ∷ rs) = let h = all_settled rs in omega arith
 
+-- One for each kind of answer: the claims about the two are told apart by the case alone.
 told_held : (P : Result ℕ Refusal → Type 0) (a : Answer) → ByHeld P (Ok a) → (n : ℕ) × P (Ok n)
 told_held P (Held n) p = (n, p)
 told_held P (Settled n) p = absurd p

@@ -16,6 +16,7 @@ use runs::step::{Answer, Call, step};
 use search::search;
 use search::sheet::Sheet;
 use search::strip::Strip;
+use std::array;
 use std::process::Abort;
 use std::test::Fail;
 use weighing::weighing::Weighing;
@@ -32,6 +33,7 @@ fn holding<W: Weighing + Drop>(rt: &impl Abort, mut weighing: W, readings: &[u32
     weighing
 }
 
+// as `holding` does by the weighing, this takes by the fit
 fn take_all<W: Weighing>(rt: &impl Abort, fit: &mut Fit<W>, readings: &[u32]) {
     for &reading in readings {
         assert!(rt; fit.take(reading).is_ok());
@@ -40,8 +42,8 @@ fn take_all<W: Weighing>(rt: &impl Abort, fit: &mut Fit<W>, readings: &[u32]) {
 
 // Settles with lists of any length that may be needed, and tells how far the count rose.
 fn settle<W: Weighing>(fit: &mut Fit<W>) -> Result<u64, Fail> {
-    let mut answers = [UNTOUCHED; 512];
-    let mut work = [UNTOUCHED; 2048];
+    let mut answers = [UNTOUCHED; MOST_READINGS];
+    let mut work = [UNTOUCHED; 4 * MOST_READINGS];
     fit.settle(&mut answers, &mut work)
         .map_err(|_| Fail::new("the settle is refused"))
 }
@@ -358,16 +360,15 @@ fn cuts_as_tried<W: Weighing + Drop>(rt: &impl Abort, weighing: W) {
         column: 0,
         columns: n,
     };
-    let mut cuts = [UNTOUCHED; 512];
-    let mut work = [UNTOUCHED; 2048];
+    let mut cuts = [UNTOUCHED; MOST_READINGS];
+    let mut work = [UNTOUCHED; 4 * MOST_READINGS];
     assert!(rt; search(&mut rounds, strip, &mut cuts, &mut work).is_ok());
-    for j in 2..=n {
-        let cut = cuts[j - 1];
-        let Some((least, best)) = every_cut_tried(&mut rounds.weighing, j) else {
+    for (row, &cut) in cuts[..n].iter().enumerate().skip(1) {
+        let Some((least, best)) = every_cut_tried(&mut rounds.weighing, row + 1) else {
             panic!(rt; "no cut");
         };
         assert_eq!(rt; cut, best);
-        assert_eq!(rt; rounds.entry(j - 1, cut), Ok(Cost::Number(least)));
+        assert_eq!(rt; rounds.entry(row, cut), Ok(Cost::Number(least)));
     }
 }
 
@@ -375,9 +376,6 @@ fn cuts_as_tried<W: Weighing + Drop>(rt: &impl Abort, weighing: W) {
 fn single_cuts_as_tried(rt: HostRuntime) {
     let stages = [10, 10, 11, 40, 41, 41, 41, 80, 80];
     cuts_as_tried(&rt, holding(&rt, Ceiling::new(), &stages));
-    let mut even = Middle::new();
-    for reading in 0..200u32 {
-        assert!(rt; even.take(reading * 3).is_ok());
-    }
-    cuts_as_tried(&rt, even);
+    let steady: [u32; 200] = array::from_fn(|i| i as u32 * 3);
+    cuts_as_tried(&rt, holding(&rt, Middle::new(), &steady));
 }

@@ -1,10 +1,15 @@
 //! Something whose cost is told and, with the word `time`, timed.
+use division::table::MOST_READINGS;
 use refusal::Refusal;
 use std::time::Instant;
 
 const RUNS: usize = 200;
 
-const MOST_ROWS: usize = 512;
+/// Room for a row each of the largest fit; no other task has more.
+const PLACES: usize = MOST_READINGS;
+
+/// Four places of work for each row.
+const WORK: usize = 4 * PLACES;
 
 pub trait Task {
     /// Does it once, with the lists that it may use, and answers what it cost: entries read or spans weighed.
@@ -16,8 +21,8 @@ pub trait Task {
 pub struct Bench<'a> {
     rt: &'a HostRuntime,
     timed: bool,
-    answers: [usize; MOST_ROWS],
-    work: [usize; 4 * MOST_ROWS],
+    answers: [usize; PLACES],
+    work: [usize; WORK],
 }
 
 impl<'a> Bench<'a> {
@@ -25,8 +30,8 @@ impl<'a> Bench<'a> {
         Bench {
             rt,
             timed,
-            answers: [0; MOST_ROWS],
-            work: [0; 4 * MOST_ROWS],
+            answers: [0; PLACES],
+            work: [0; WORK],
         }
     }
 

@@ -1,12 +1,11 @@
-//! A settle of a lead whose loss rises by a little more at every reading, into up to eight spans.
+//! A settle of a lead whose loss rises by a little more at every reading, into as many spans as there can be.
 use crate::bench::Task;
+use division::table::{MOST_READINGS, MOST_SPANS};
 use fit::fit::Fit;
 use refusal::Refusal;
 use rising::ceiling::Ceiling;
 use std::ops::Range;
 use weighing::weighing::Weighing;
-
-const LIMIT: usize = 8;
 
 /// A lead that holds so many readings, of which the first ones are settled already.
 #[derive(Drop)]
@@ -17,7 +16,7 @@ pub struct Lead {
 
 fn take_all(fit: &mut Fit<Ceiling>, places: Range<u32>) -> Result<(), Refusal> {
     for place in places {
-        let place = place.min(512);
+        let place = place.min(MOST_READINGS as u32);
         fit.take(place * place / 5)?;
     }
     Ok(())
@@ -25,7 +24,7 @@ fn take_all(fit: &mut Fit<Ceiling>, places: Range<u32>) -> Result<(), Refusal> {
 
 impl Task for Lead {
     fn run(&self, answers: &mut [usize], work: &mut [usize]) -> Result<u64, Refusal> {
-        let mut fit = Fit::open(Ceiling::new(), LIMIT);
+        let mut fit = Fit::open(Ceiling::new(), MOST_SPANS);
         take_all(&mut fit, 0..self.settled)?;
         if self.settled > 0 {
             fit.settle(answers, work)?;

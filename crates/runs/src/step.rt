@@ -32,6 +32,7 @@ pub enum Answer {
 /// The law over runs stands here: over any weighing and limit, and after any calls since the fit was opened, the
 /// call is answered or refused by the readings then held and which of them are settled, and an answered divide
 /// names the best division of them.
+// Two lists of the caller's, as every call above lends them on.
 #[tactic(auto, using(crate::proofs::Runs::law))]
 pub fn step<W: Weighing>(
     fit: &mut Fit<W>,

@@ -27,6 +27,7 @@ fn call_of(command: Command<'_>) -> Call
 }
 
 // How many spans a call asks for; 0 of a call that asks for none.
+// 0 and no Option: the answer alone doesn't tell which call it is of, and the line of a weight tells a number anyway.
 fn spans_asked(call: Call) -> usize
     ensures value { result ≡ asked call }
 {
@@ -56,6 +57,7 @@ fn reply_to(call: Call, answer: Result<Answer, Refusal>, held: usize, ends: &[us
 }
 
 /// The reply to a line that is not understood, or to any call that is refused.
+// named beside `opened`
 pub fn refused(why: Refusal) -> Reply<'static>
     ensures value { reply_text result ≡ refused_line why }
 {
@@ -67,6 +69,7 @@ pub fn refused(why: Refusal) -> Reply<'static>
 ///
 /// The law over runs stands here too: after any calls since the fit was opened, the reply tells what the readings then
 /// held and settled call for.
+// Two lists of the caller's, as every call above lends them on.
 pub fn perform<'a, W: Weighing>(
     fit: &mut Fit<W>,
     command: Command<'_>,

@@ -39,6 +39,7 @@ pub fn fill<R: Read>(from: &mut R, buffer: &mut [u8]) -> io::Result<usize>
 
 /// Answers the lines that are left, each as a call of the fit, and lets the listener hear a reply to each.
 // `ends` and `work` stay apart: in a struct of two `&mut` each clause would also say that both keep their references.
+// Reader and listener likewise.
 pub fn answer_lines<W: Weighing, L: Listener>(
     reader: &mut Reader<'_>,
     fit: &mut Fit<W>,

@@ -1,5 +1,5 @@
 //! What can be asked of a fit.
-ghost use Rattle.std.specs.Prelude.{◌≡◌, ℕ, ◌+◌, ◌-◌, ◌*◌, ◌<◌, ◌≤◌, true};
+ghost use Rattle.std.specs.Prelude.{◌≡◌, ℕ, ◌+◌, ◌-◌, ◌*◌, ◌<◌, ◌≤◌, IsTrue, ◌↔◌};
 ghost use Rattle.fit.specs.Calls.{Opens, TakeDid, DropDid, WipeDid, SettleDid, DivideDid, ExactDid, Ready, Allowed, size};
 
 use super::Fit;
@@ -69,6 +69,7 @@ impl<W: Weighing> Fit<W> {
 
     /// Settles all readings on top of those that are settled, and tells how far the weighing's count rose.
     /// For each of the m unsettled readings `answers` needs a place and `work` four, which are free afterwards.
+    // Two lists of the caller's, as every call above lends them on.
     pub fn settle(&mut self, answers: &mut [usize], work: &mut [usize]) -> Result<u64, Refusal>
         ensures answer { SettleDid W.Weighing self.old answers.old work.old result self.new answers.new work.new }
     {
@@ -105,8 +106,7 @@ impl<W: Weighing> Fit<W> {
     }
 
     fn allows(&self, k: usize) -> bool
-        ensures yes { result ≡ true → Allowed self.now.limit k }
-        ensures only { Allowed self.now.limit k → result ≡ true }
+        ensures value { IsTrue result ↔ Allowed self.now.limit k }
     {
         0 < k && k <= self.limit
     }

@@ -16,7 +16,7 @@ returns g c =
     let r = c.divide.result in
     let did = c.divide.ensures in
     record {
-      answer = divided m f k old new r ready.1 (g.met.W.Weighing.few f.rounds.weighing) ready.2 (c.if-not-allows.ensures.yes refl)
+      answer = divided m f k old new r ready.1 (g.met.W.Weighing.few f.rounds.weighing) ready.2 (c.if-not-allows.ensures.value.0 refl)
           (subst (λ x. TableDivided f.rounds.table x k old r new) n did.answer)
           (subst (λ x. (weight : ℕ → ℕ → ℕ) (rounds : ℕ) → Right weight f.rounds.table rounds x → k ≤ rounds → Divided weight x k old r new) n did.best);
     }
