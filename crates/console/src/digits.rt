@@ -1,5 +1,5 @@
 //! Numbers as they stand in a line: which bytes write one, and what it comes to.
-ghost use Rattle.std.specs.Prelude.{◌≡◌, ℕ, ◌^◌, ◌<◌, decimal, Decides};
+ghost use Rattle.std.specs.Prelude.{◌≡◌, ℕ, ◌^◌, ◌<◌, decimal, IsTrue, ◌↔◌};
 ghost use Rattle.console.specs.Numerals.{Numeral, NumberOf};
 
 use std::str;
@@ -7,7 +7,7 @@ use std::str;
 const MOST_DIGITS: usize = 6;
 
 pub(crate) fn is_numeral(bytes: &[u8]) -> bool
-    ensures { Decides result (Numeral bytes.now) }
+    ensures { IsTrue result ↔ Numeral bytes.now }
 {
     match bytes {
         [] | [b'0', _, ..] => false,

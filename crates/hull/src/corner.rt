@@ -1,5 +1,5 @@
 //! A corner, and what two or three corners make: a squared distance and a turn.
-ghost use Rattle.std.specs.Prelude.{◌≡◌, ◌<◌, ◌^◌, ◌-ℤ◌, unsigned_abs, Decides};
+ghost use Rattle.std.specs.Prelude.{◌≡◌, ◌<◌, ◌^◌, ◌-ℤ◌, unsigned_abs, IsTrue, ◌↔◌};
 ghost use Rattle.hull.specs.Plane.{Near, Left, turn, distance};
 
 /// The farthest that a coordinate may lie from 0.
@@ -15,7 +15,7 @@ pub struct Corner {
 impl Corner {
     /// Whether both coordinates are from -30,000 to 30,000.
     pub(crate) fn is_near(self) -> bool
-        ensures decides { Decides result (Near self) }
+        ensures decides { IsTrue result ↔ Near self }
     {
         self.x.unsigned_abs() <= FARTHEST_OUT && self.y.unsigned_abs() <= FARTHEST_OUT
     }
@@ -52,7 +52,7 @@ impl Corner {
 
     /// Whether the three turn left.
     pub(crate) fn turns_left(self, p: Corner, q: Corner) -> bool
-        ensures decides { Decides result (Left self p q) }
+        ensures decides { IsTrue result ↔ Left self p q }
     {
         0 < self.turn(p, q)
     }

@@ -1,5 +1,5 @@
 //! A strip: the part of a sheet that one search looks at.
-ghost use Rattle.std.specs.Prelude.{ℕ, ◌+◌, ◌<◌, ◌≤◌, Decides};
+ghost use Rattle.std.specs.Prelude.{ℕ, ◌+◌, ◌<◌, ◌≤◌, IsTrue, ◌↔◌};
 ghost use Rattle.search.specs.Strips.{Inside};
 
 /// Rows `row` to `row + rows - 1` and columns `column` to `column + columns - 1` of a sheet.
@@ -14,7 +14,7 @@ pub struct Strip {
 impl Strip {
     /// Whether the strip has a row and a column and passes neither edge of a sheet of this many rows and columns.
     pub fn lies_in(self, rows: usize, columns: usize) -> bool
-        ensures decides { Decides result (Inside self rows columns) }
+        ensures decides { IsTrue result ↔ Inside self rows columns }
     {
         0 < self.rows
             && 0 < self.columns
