@@ -37,6 +37,7 @@ impl Lens {
     /// `size` corners, at most 512, half of them on either parabola.
     pub fn new(size: usize) -> Result<Lens, Refusal> {
         let size = size.min(MOST_CORNERS);
+        // an array and how much of it is meant: no task asks for memory, which it might not get
         let mut corners = [Corner { x: 0, y: 0 }; MOST_CORNERS];
         for (place, corner) in corners[..size].iter_mut().enumerate() {
             *corner = corner_at(place as i32, size as i32 / 2);
