@@ -78,6 +78,7 @@ impl Weighing for Even {
         ] }
         ensures same { KeepsAllButReadings self.old self.new }
     {
+        // Two lines; a shared count would need a contract as long as theirs.
         self.n = self.n.checked_sub(1).ok_or(Refusal::NothingHeld)?;
         Ok(self.n)
     }

@@ -236,7 +236,7 @@ fn largest_fit(rt: HostRuntime) -> Result<(), Fail> {
     for reading in 0..512u32 {
         assert!(rt; fit.take(reading / 64 * 100).is_ok());
     }
-    assert_eq!(rt; fit.held(), MOST_READINGS);
+    assert_eq!(rt; fit.held(), 512);
     assert_eq!(rt; fit.take(700), Err(Refusal::Full));
     let whole = settle(&mut fit)?;
     assert!(rt; whole <= 69_632);

@@ -8,6 +8,7 @@ use refusal::Refusal;
 use weighing::weighing::Weighing;
 
 /// A call of a fit.
+// A value and no closure: the law speaks of lists of calls.
 #[derive(Clone, Copy, PartialEq, Eq, Debug)]
 pub enum Call {
     Take(u32),

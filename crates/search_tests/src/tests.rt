@@ -287,7 +287,7 @@ fn short_lists_are_refused(rt: HostRuntime) -> Result<(), Fail> {
 
 #[test]
 fn a_full_ledger_rises_no_further(rt: HostRuntime) -> Result<(), Fail> {
-    // written out: a test takes no bound from the code
+    // written out: a value under test is not taken from the code
     let most = (1u64 << 63) - 1;
     for left in [0u64, 4] {
         let case = Case::with_spare(SQUARED_GAP, [0, 9, 0, 7], 0);

@@ -30,7 +30,7 @@ use Step::{Count, DropLast, Held, Level, Take, Top, Verdict, Weigh, Wipe};
 // what a step answers
 type Answer = Result<u64, Refusal>;
 
-// written out: a test takes no bound from the code
+// written out: a value under test is not taken from the code
 const GREATEST_CHARGE: u64 = 0x1000_0000;
 
 const GREATEST_COUNT: u64 = 0x7fff_ffff_ffff_ffff;
