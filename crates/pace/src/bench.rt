@@ -26,7 +26,7 @@ pub struct Bench<'a> {
 }
 
 impl<'a> Bench<'a> {
-    pub fn new(rt: &'a HostRuntime, timed: bool) -> Bench<'a> {
+    pub(crate) fn new(rt: &'a HostRuntime, timed: bool) -> Bench<'a> {
         Bench {
             rt,
             timed,

@@ -4,4 +4,4 @@
 pub mod ceiling;
 pub mod middle;
 mod readings;
-pub mod row;
+mod row;
