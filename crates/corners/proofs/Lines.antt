@@ -5,7 +5,7 @@ use Rattle.std.proofs.lemmas.Str.Parse.{digit_at}
 use Rattle.std.proofs.lemmas.Str.Pattern.{IsSplitOnceResult, split_after, split_parts}
 use Rattle.std.proofs.Math.Seq.{get_or-append_seam}
 use Rattle.hull.specs.declared.corner.Corner.{Corner}
-use Rattle.corners.specs.Lines.{Writes, SomeNumber, Written, SomeCorner}
+use Rattle.corners.specs.Lines.{Writes, Written, SomeCorner}
 
 abbrev NoSpace : List ℕ → Type 0
 NoSpace text = (i : ℕ) → i < length text → get_or text i 0 ≡ 32 → ⊥
@@ -34,11 +34,11 @@ no_space_no_corner line none (c, w) =
     none (length w.x_text) (omega arith) (ap (λ text. get_or text (length w.x_text) 0) w.one_space ∙ get_or-append_seam w.x_text 32 w.y_text 0)
 
 -- the parts at the first space are the two numbers of any corner that the line writes
-pub parts_are_numbers : (line : List ℕ) (x y : Bor (List ℕ)) → IsSplitOnceResult 32 line (Some (x, y)) → SomeCorner line → SomeNumber x.now × SomeNumber y.now
-parts_are_numbers line x y split (c, w) =
+pub parts_are_numbers : (line : List ℕ) (x y : Bor (List ℕ)) → IsSplitOnceResult 32 line (Some (x, y)) → (c : Corner) → Written line c → Writes x.now c.x × Writes y.now c.y
+parts_are_numbers line x y split c w =
     let same = split_after 32 line w.x_text w.y_text (Some (x, y)) split (omega arith) w.one_space (number_no_space w.x_text c.x w.x_is) in (
-      (c.x, subst (λ text. Writes text c.x) (sym same.0) w.x_is),
-      (c.y, subst (λ text. Writes text c.y) (sym same.1) w.y_is),
+      subst (λ text. Writes text c.x) (sym same.0) w.x_is,
+      subst (λ text. Writes text c.y) (sym same.1) w.y_is,
     )
 
 pub parts_written : (line : List ℕ) (x y : Bor (List ℕ)) → IsSplitOnceResult 32 line (Some (x, y)) → (c : Corner) → Writes x.now c.x → Writes y.now c.y → Written line c

@@ -23,14 +23,14 @@ returns-in_err-whole c =
     let p = err_from_is_err_and c.from_residual-in_err-whole.result c.from_residual-in_err-whole.ensures.1 in
     let split = rw (c.ok_or.ensures.ok_part, c.in_ok-x.was) at c.split_once.ensures.cases in
     let numbers = parts_are_numbers c.args.line.now c.in_ok-x.x c.in_ok-x.y split in
-    rw (p.1, p.2) (record { answer = stronger_broken _ _ 14 _ (λ s. (numbers s).0) c.in_err-whole.ensures.answer })
+    rw (p.1, p.2) (record { answer = stronger_broken _ _ 14 _ (λ s. (s.0.x, (numbers s.0 s.1).0)) c.in_err-whole.ensures.answer })
 
 pub returns-in_err-whole-2 : goal.returns-in_err-whole-2
 returns-in_err-whole-2 c =
     let p = err_from_is_err_and c.from_residual-in_err-whole-2.result c.from_residual-in_err-whole-2.ensures.1 in
     let split = rw (c.ok_or.ensures.ok_part, c.in_ok-x.was) at c.split_once.ensures.cases in
     let numbers = parts_are_numbers c.args.line.now c.in_ok-x.x c.in_ok-x.y split in
-    rw (p.1, p.2) (record { answer = stronger_broken _ _ 14 _ (λ s. (numbers s).1) c.in_err-whole-2.ensures.answer })
+    rw (p.1, p.2) (record { answer = stronger_broken _ _ 14 _ (λ s. (s.0.y, (numbers s.0 s.1).1)) c.in_err-whole-2.ensures.answer })
 
 pub returns : goal.returns
 returns c =
