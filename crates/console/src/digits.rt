@@ -2,8 +2,6 @@
 ghost use Rattle.std.specs.Prelude.{◌≡◌, ℕ, ◌^◌, ◌<◌, decimal, IsTrue, ◌↔◌};
 ghost use Rattle.console.specs.Numerals.{Numeral, NumberOf};
 
-use std::str;
-
 const MOST_DIGITS: usize = 6;
 
 pub(crate) fn is_numeral(bytes: &[u8]) -> bool
@@ -21,8 +19,13 @@ pub fn value_of(digits: &[u8]) -> u32
     ensures written { Numeral digits.now → decimal result ≡ digits.now }
     ensures bound { result < 10 ^ 6 }
 {
-    match str::from_utf8(digits) {
-        Ok(text) if is_numeral(digits) => text.parse().unwrap_or(0),
-        _ => 0,
+    if !is_numeral(digits) {
+        return 0;
     }
+    // by hand: the library's `parse` wants the bytes as text first, and takes more than twice the time
+    let mut value = 0;
+    for digit in digits {
+        value = value * 10 + u32::from(*digit - b'0');
+    }
+    value
 }

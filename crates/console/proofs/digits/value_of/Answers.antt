@@ -1,17 +1,19 @@
-use Rattle.std.proofs.Common.{◌≡◌, decimal, ap, ◌∙◌, inl, inr, refl, arith, rules}
+use Rattle.std.proofs.Common.{◌≡◌, decimal, ap, ◌∙◌, inl, arith, rules}
 use Rattle.console.specs.Numerals.{Numeral, value}
-use Rattle.console.proofs.Numerals.{numeral_utf8, parsed, value_below, value_written}
+use Rattle.console.proofs.Numerals.{digit_more, digits_all, value_below, value_written}
 use Rattle.console.proofs.digits.value_of.Goals as goal
 
-pub returns-in-Ok : goal.returns-in-Ok
-returns-in-Ok c =
-    let digits = c.args.digits.now in
-    let numeral : Numeral digits = c.is_numeral.ensures.0 c.if-is_numeral.true in
-    let is : c.unwrap_or.result ≡ value digits = parsed digits c.in-Ok.text.now c.parse.result c.unwrap_or.result c.parse.ensures.value.0 (search rules) c.unwrap_or.ensures numeral in
-    let small = value_below digits numeral in
-    record { value = inl (numeral, is); written = λ _. ap decimal is ∙ value_written digits numeral; bound = omega arith }
+pub loop-digit-preserved : goal.loop-digit-preserved
+loop-digit-preserved c = digit_more c.args.digits.now c.loop-digit.digit-index c.loop-digit.value _ (c.is_numeral.ensures.0 (search rules)).digits (omega arith) c.from.ensures c.loop-digit.invariant
 
-pub returns-in_default-2 : goal.returns-in_default-2
-returns-in_default-2 c =
-    let none : Numeral c.args.digits.now → ⊥ = λ numeral. let text = numeral_utf8 c.args.digits.now numeral in search rules in
-    record { value = inr (none, refl); written = λ numeral. absurd (none numeral); bound = omega arith }
+pub returns : goal.returns
+returns c =
+    let digits = c.args.digits.now in
+    let numeral : Numeral digits = c.is_numeral.ensures.0 (search rules) in
+    let is : c.loop-digit.value ≡ value digits = digits_all digits c.loop-digit.digit-index c.loop-digit.value numeral (omega arith) c.loop-digit.invariant.0 in
+    let small = value_below digits numeral in
+    record {
+      value = inl (numeral, is);
+      written = λ _. ap decimal is ∙ value_written digits numeral;
+      bound = omega arith;
+    }
