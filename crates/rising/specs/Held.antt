@@ -1,5 +1,5 @@
 -- The readings that a weighing holds.
-use Rattle.std.specs.Prelude.{ℕ, List, slice_index, take}
+use Rattle.std.specs.Prelude.{ℕ, List, slice_index, take, drop}
 use Rattle.weighing.specs.declared.weighing.Weighing.{Ghosts}
 use Rattle.rising.specs.declared.readings.Entry.{Entry}
 use Rattle.rising.specs.declared.readings.Readings.{Readings}
@@ -7,9 +7,9 @@ use Rattle.rising.specs.declared.row.Row.{Row}
 use Rattle.rising.specs.Entries.{taken}
 use Rattle.rising.specs.Rows.{rising_meaning}
 
--- the entries of the readings held, first to last
+-- the entries of the readings held, first to last: those behind the first entry
 abbrev pub entries_of : Readings → List Entry
-entries_of r = take r.n r.entries
+entries_of r = take r.n (drop 1 r.entries)
 
 -- the list of readings held, first to last
 abbrev pub readings : Readings → List ℕ

@@ -5,16 +5,16 @@ ghost use Rattle.rising.specs.Held.{entries_of, readings};
 ghost use Rattle.rising.specs.Rows.{rising_verdict, last, Pushes, Pops};
 ghost use Rattle.rising.specs.Sums.{sum_first};
 
-use crate::readings::{Entry, Readings};
+use crate::readings::{ENTRIES, Entry, Readings};
 use refusal::Refusal;
-use weighing::verdict::{MOST_READINGS, heed, verdict_on};
+use weighing::verdict::{heed, verdict_on};
 
 impl Readings {
     pub(crate) fn new() -> Readings
         ensures value { readings result ≡ [] }
     {
         Readings {
-            entries: [Entry::default(); MOST_READINGS],
+            entries: [Entry::default(); ENTRIES],
             n: 0,
         }
     }
@@ -29,7 +29,7 @@ impl Readings {
     fn entries(&self) -> &[Entry]
         ensures value { result.now ≡ entries_of self.now }
     {
-        &self.entries[..self.n]
+        &self.entries[1..self.n + 1]
     }
 
     fn last(&self) -> u32
@@ -49,7 +49,7 @@ impl Readings {
     {
         heed(self.verdict(reading))?;
         let sum = self.sum_first(self.held()) + reading;
-        self.entries[self.n] = Entry { reading, sum };
+        self.entries[self.n + 1] = Entry { reading, sum };
         self.n += 1;
         Ok(self.n)
     }
@@ -80,6 +80,6 @@ impl Readings {
         requires { k ≤ length (readings self.now) }
         ensures value { result ≡ sum_first (readings self.now) k }
     {
-        self.entries()[..k].last().map_or(0, |entry| entry.sum)
+        self.entries[k].sum
     }
 }
