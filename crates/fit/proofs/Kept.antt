@@ -27,6 +27,13 @@ small_entry weight t k j a light = ⊎_elim
     (cases_lt a j)
 
 module _ {W : Type 0} (m : Ghosts W) where
+  -- no call, no row and no round leave all as it was
+  pub weighed_none : (v : W) → Weighed m v v 0
+  weighed_none v = record {
+    same = record { held_same = refl; weights_same = λ a b l h. refl; levels_same = λ a b l h. refl; verdicts_same = λ r l. refl; top_same = refl; count_risen = omega arith };
+    few = omega arith;
+  }
+
   pub weighed_more : {u v w : W} {a b : ℕ} (c : ℕ) → a + b ≤ c → Weighed m u v a → Weighed m v w b → Weighed m u w c
   weighed_more c le p q =
       let x = p.same in
@@ -78,6 +85,15 @@ module _ {W : Type 0} (m : Ghosts W) where
       let weights = entry_same (m.weight t.weighing) (m.weight s.weighing) (carried_at t.table t.round) (row + 1) a (λ h. same.weights_same a (row + 1) h (omega arith)) in
       let carried : carried_at t.table t.round a ≡ carried_at s.table s.round a = ap (λ k. carry (tally_at t.table k a)) round ∙ ap carry (tallies a) in
       weights ∙ ap (λ c. cond (ltb a (row + 1)) (plus c (m.weight s.weighing a (row + 1))) Empty) carried
+
+  pub kept_none : (s : Rounds W) (mark : ℕ) (columns : List ℕ) → KeptAll m s s mark 0 columns
+  kept_none s mark columns = record {
+    weighed = weighed_none s.weighing;
+    round_same = refl;
+    tallies = λ i l. absurd (omega arith);
+    cuts = λ i l. absurd (omega arith);
+    others = λ k j h. (refl, refl);
+  }
 
   pub kept_more : {s t u : Rounds W} {mark many : ℕ} {columns : List ℕ} → mark + many < m.held s.weighing → KeptAll m s t mark many columns → KeptOne m t u (mark + many) (get_or columns many 0) → KeptAll m s u mark (many + 1) columns
   kept_more {s} {t} {u} {mark} {many} {columns} inside all one =
@@ -178,6 +194,15 @@ filled_stays weight other t u n k j weights tallies cell f =
     }
 
 module _ {W : Type 0} (m : Ghosts W) where
+  pub rounds_none : (s : Rounds W) (mark : ℕ) (answers work : List ℕ) → RoundsDone m s s 0 mark answers answers work work
+  rounds_none s mark answers work = record {
+    weighed = weighed_more m (0 * (4 * m.held s.weighing + 13 * (m.held s.weighing - mark))) (omega arith) (weighed_none m s.weighing) (weighed_none m s.weighing);
+    filled = λ k j a. absurd (omega arith);
+    settled_kept = λ k j l. (refl, refl);
+    answers_kept = λ i l. refl;
+    work_kept = λ i l. refl;
+  }
+
   pub rounds_more : {s t u : Rounds W} {k mark : ℕ} {answers answers' answers'' work work' work'' : List ℕ} → RoundsDone m s t k mark answers answers' work work' → RoundDone m t u k mark answers' answers'' work' work'' → RoundsDone m s u (k + 1) mark answers answers'' work work''
   rounds_more {s} {t} {u} {k} {mark} done one =
       let same = done.weighed.same in
